@@ -1,0 +1,6 @@
+pub mod Run
+pub mod Matched
+pub mod Machine
+pub mod World
+pub mod Headline
+pub mod Outside

@@ -1,0 +1,11 @@
+// The base of the compiler: what is observed of a run, how runs are compared, and the outside.
+#![tactic(auto)]
+
+mod event;
+mod outside;
+
+pub use event::{
+    Bytes, CEnd, Entry, Event, Fault, LiveRow, Memory, Span, Stream, ThingKind, TrapKind,
+    UndefKind, VEnd,
+};
+pub use outside::{Call, Folder, FolderFault, PutFault, Sink, SinkFault, put_all};
