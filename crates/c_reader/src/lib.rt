@@ -1,0 +1,8 @@
+// Reads the C that is written, and holds what it means.
+#![tactic(auto)]
+
+mod refusal;
+mod unit;
+
+pub use refusal::{CCause, CRefusal};
+pub use unit::CUnit;

@@ -1,0 +1,6 @@
+// Compiles Vala to C, and holds what a Vala program means.
+#![tactic(auto)]
+
+mod refusal;
+
+pub use refusal::{Refusal, Rule};
