@@ -3,6 +3,7 @@ use Rattle.std.specs.Prelude.{◌≡◌, ℕ, ◌≤◌, ◌<◌, List, [], ◌�
 use Rattle.vg_base.specs.declared.small.Token.{Token}
 use Rattle.vg_base.specs.declared.small.Token.TheVariants.{Word, Sign, Include}
 use Rattle.vg_base.specs.Small.{Lexes, calls_between}
+use Rattle.c_reader.specs.declared.refusal.CCause.{CCause}
 use Rattle.c_reader.specs.declared.refusal.CCause.TheVariants.{C2, C6}
 use Rattle.c_reader.specs.declared.refusal.CRefusal.{CRefusal}
 
@@ -29,3 +30,12 @@ pub data Answers (bytes : List ℕ) (limit : ℕ) : Result Texts CRefusal → Ty
   unit : (u : Texts) → length bytes ≤ limit → CReads bytes u → Answers bytes limit (Ok u)
   outside : length bytes ≤ limit → ((u : Texts) → CReads bytes u → ⊥) → Answers bytes limit (Err (record { cause = C2; at = 0 }))
   large : limit < length bytes → Answers bytes limit (Err (record { cause = C6; at = limit }))
+
+-- the causes as they are printed: name and text
+abbrev pub cause_name : CCause → List ℕ
+cause_name C2 = codes "C2"
+cause_name C6 = codes "C6"
+
+abbrev pub cause_text : CCause → List ℕ
+cause_text C2 = codes "not in the dialect"
+cause_text C6 = codes "too large"

@@ -4,5 +4,5 @@
 mod refusal;
 mod unit;
 
-pub use refusal::{CCause, CRefusal};
+pub use refusal::{CCause, CRefusal, cause_name, cause_text};
 pub use unit::CUnit;

@@ -1,5 +1,8 @@
 // Why bytes are no unit of C.
 
+ghost use Rattle.std.specs.Prelude.{◌≡◌};
+ghost use Rattle.c_reader.specs.Dialect.{cause_name as name_of_cause, cause_text as text_of_cause};
+
 /// The causes, by the names that are printed.
 #[derive(Clone, Copy, Debug)]
 pub enum CCause {
@@ -14,4 +17,24 @@ pub enum CCause {
 pub struct CRefusal {
     pub cause: CCause,
     pub at: u64,
+}
+
+/// The name of a cause.
+pub fn cause_name(cause: CCause) -> &'static str
+    ensures { result.now ≡ name_of_cause cause }
+{
+    match cause {
+        CCause::C2 => "C2",
+        CCause::C6 => "C6",
+    }
+}
+
+/// What a cause says.
+pub fn cause_text(cause: CCause) -> &'static str
+    ensures { result.now ≡ text_of_cause cause }
+{
+    match cause {
+        CCause::C2 => "not in the dialect",
+        CCause::C6 => "too large",
+    }
 }

@@ -3,4 +3,4 @@
 
 mod refusal;
 
-pub use refusal::{Refusal, Rule};
+pub use refusal::{Refusal, Rule, rule_name, rule_text};
