@@ -1,5 +1,5 @@
 -- From a relation of states to the headline.
-use Rattle.std.proofs.Common.{◌≡◌, ℕ, zero, suc, ◌+◌, ◌≤◌, Bool, List, [], ◌∷◌, ◌++◌, Option, Some, None, refl, sym, ap, ◌∙◌, arith, append_assoc}
+use Rattle.std.proofs.Common.{◌≡◌, ℕ, zero, suc, ◌+◌, ◌^◌, ◌≤◌, ◌<◌, Bool, List, [], ◌∷◌, ◌++◌, Option, Some, None, ◌⊎◌, inl, inr, refl, sym, ap, ◌∙◌, subst, arith, append_assoc}
 use Rattle.std.specs.Prelude.{IsSome, slice_get}
 use Rattle.std.specs.Option.{option_map}
 use Rattle.vg_base.specs.declared.event.Event.{Event}
@@ -9,13 +9,13 @@ use Rattle.vg_base.specs.declared.event.Stream.TheVariants.{Out, Err}
 use Rattle.vg_base.specs.declared.event.LiveRow.{LiveRow}
 use Rattle.vg_base.specs.declared.event.VEnd.{VEnd}
 use Rattle.vg_base.specs.declared.event.CEnd.{CEnd}
-use Rattle.vg_base.specs.Run.{Begins, SameEnd, Agrees, flipped}
-use Rattle.vg_base.specs.Machine.{moves, said, run_from, Answers}
+use Rattle.vg_base.specs.Run.{Begins, SameEnd, Goes, flipped}
+use Rattle.vg_base.specs.Machine.{moves, said, most, run_from, Answers}
 use Rattle.vg_base.specs.World.{Mates}
-use Rattle.vg_base.specs.Headline.{Said, Happens, Returns, Meaning, events, returns, observed, Follows, Headline, printed}
+use Rattle.vg_base.specs.Headline.{Said, Happens, Returns, Meaning, events, returns, observed, Headline, printed}
 use Rattle.vg_base.specs.Laws.{Parts, EndStays, printed_by}
-use Rattle.vg_base.proofs.RunLaws.{cut_begins}
-use Rattle.vg_base.proofs.MachineLaws.{run_showing, showing_is, showing_agree, run_is, limits, answers_agree}
+use Rattle.vg_base.proofs.RunLaws.{cut_begins, same_flip}
+use Rattle.vg_base.proofs.MachineLaws.{some_is, run_showing, showing_is, run_is, answers_flip, goes_below}
 
 -- The parts of what is said
 
@@ -84,7 +84,8 @@ with_live_is (Some e) r h = (e, refl)
 pub observed_stays : {S F : Type 0} → (M : Meaning S F) (s : S) → EndStays (observed M s)
 observed_stays M s = (run_is M.machine s).stays
 
-module _ {S T : Type 0} (V : Meaning S VEnd) (C : Meaning T CEnd) (R : S → T → Type 0) (ends : (x : S) (y : T) → R x y → SameEnd Mates (V.machine.ended x) (C.machine.ended y)) (lives : (x : S) (y : T) → R x y → IsSome (V.machine.ended x) → V.live x ≡ C.live y) (s w : ℕ) (bounded : Bool) (answers : (x : S) (y : T) → R x y → Answers bounded s w V.machine C.machine R x y) (x : S) (y : T) (r : R x y) (top : V.machine.top x ≤ C.machine.top y + s) (top_too : C.machine.top y ≤ V.machine.top x + s) where
+-- The limit is a variable here, so that no proof computes it.
+module _ {S T : Type 0} (V : Meaning S VEnd) (C : Meaning T CEnd) (R : S → T → Type 0) (ends : (x : S) (y : T) → R x y → SameEnd Mates (V.machine.ended x) (C.machine.ended y)) (lives : (x : S) (y : T) → R x y → IsSome (V.machine.ended x) → V.live x ≡ C.live y) (s w : ℕ) (bounded : Bool) (limit : ℕ) (answers : (x : S) (y : T) → R x y → (V.machine.top x < limit) ⊎ (C.machine.top y < limit) → Answers bounded s w V.machine C.machine R x y) (x : S) (y : T) (r : R x y) (top : V.machine.top x ≤ C.machine.top y + s) (top_too : C.machine.top y ≤ V.machine.top x + s) where
   -- the end of a state with what lives there
   abbrev shown_v : S → Option (VEnd × List LiveRow)
   shown_v t = with_live (V.machine.ended t) (V.live t)
@@ -101,23 +102,15 @@ module _ {S T : Type 0} (V : Meaning S VEnd) (C : Meaning T CEnd) (R : S → T �
   looks : (t : S) (u : T) → R t u → SameEnd BothMate (shown_v t) (shown_c u)
   looks t u q = with_live_same (V.machine.ended t) (C.machine.ended u) (V.live t) (C.live u) (ends t u q) (lives t u q)
 
-  -- the runs agree
-  pub answers_runs_agree : Agrees Mates (limits bounded s w) (run_from V.machine x) (run_from C.machine y)
-  answers_runs_agree = (answers_agree bounded s w V.machine C.machine R answers Mates ends x y r top top_too).1
+  -- the ends of the two runs, each with what lives there
+  goes_on : (n : ℕ) → most V.machine n x < limit → (m : ℕ) × Goes BothMate bounded s w 0 (run_showing V.machine shown_v x) (run_showing C.machine shown_c y) n m
+  goes_on = goes_below bounded s w V.machine C.machine R BothMate shown_v shown_c looks x y only_v only_c limit (λ t u q h. answers t u q (inl h)) r top top_too
 
-  -- the runs whose ends have what lives beside them agree too
-  lives_agree : Agrees BothMate (limits bounded s w) (run_showing V.machine shown_v x) (run_showing C.machine shown_c y)
-  lives_agree = showing_agree bounded s w V.machine C.machine R answers BothMate shown_v shown_c looks x y only_v only_c r top top_too
+  follows : (n : ℕ) → most V.machine n x < limit → (m : ℕ) × Goes Mates bounded s w 0 (run_from V.machine x) (run_from C.machine y) n m
+  follows = goes_below bounded s w V.machine C.machine R Mates V.machine.ended C.machine.ended ends x y (λ t. some_is (V.machine.ended t)) (λ u. some_is (C.machine.ended u)) limit (λ t u q h. answers t u q (inl h)) r top top_too
 
-  follows : Follows Mates (observed V x) (observed C y)
-  follows n within =
-      let g = answers_runs_agree.forward n in
-      (g.0, cut_begins events events_append (said V.machine n x) (said C.machine g.0 y) g.1.trace, g.1.ended)
-
-  follows_back : Follows (flipped Mates) (observed C y) (observed V x)
-  follows_back n within =
-      let g = answers_runs_agree.backward n in
-      (g.0, cut_begins events events_append (said C.machine n y) (said V.machine g.0 x) g.1.trace, g.1.ended)
+  follows_back : (n : ℕ) → most C.machine n y < limit → (m : ℕ) × Goes (flipped Mates) bounded s w 0 (run_from C.machine y) (run_from V.machine x) n m
+  follows_back = goes_below bounded s w C.machine V.machine (flipped R) (flipped Mates) C.machine.ended V.machine.ended (λ u t q. same_flip Mates (V.machine.ended t) (C.machine.ended u) (ends t u q)) y x (λ u. some_is (C.machine.ended u)) (λ t. some_is (V.machine.ended t)) limit (λ u t q h. answers_flip bounded s w V.machine C.machine R t u (answers t u q (inr h))) r top_too top
 
   -- what the second run returned after m steps stands in what it returned after more
   later : (n m k : ℕ) (rows : List LiveRow) → n ≤ m → slice_get (returns (said C.machine n y)) k ≡ Some rows → slice_get (returns (said C.machine m y)) k ≡ Some rows
@@ -125,39 +118,56 @@ module _ {S T : Type 0} (V : Meaning S VEnd) (C : Meaning T CEnd) (R : S → T �
       begins_get (returns (said C.machine n y)) (returns (said C.machine m y)) k rows
       (cut_begins returns returns_append (said C.machine n y) (said C.machine m y) ((run_is C.machine y).grows n m h)) e
 
-  same_return : (k n m : ℕ) (a b : List LiveRow) → slice_get (returns (said V.machine n x)) k ≡ Some a → slice_get (returns (said C.machine m y)) k ≡ Some b → a ≡ b
-  same_return k n m a b ea eb =
-      let g = answers_runs_agree.forward n in
+  same_return : (k n m : ℕ) (a b : List LiveRow) → most V.machine n x < limit → slice_get (returns (said V.machine n x)) k ≡ Some a → slice_get (returns (said C.machine m y)) k ≡ Some b → a ≡ b
+  same_return k n m a b within ea eb =
+      let g = follows n within in
       let there : slice_get (returns (said C.machine g.0 y)) k ≡ Some a =
       begins_get (returns (said V.machine n x)) (returns (said C.machine g.0 y)) k a
       (cut_begins returns returns_append (said V.machine n x) (said C.machine g.0 y) g.1.trace) ea in
       some_same (slice_get (returns (said C.machine (g.0 + m) y)) k) a b
       (later g.0 (g.0 + m) k a (omega arith) there) (later m (g.0 + m) k b (omega arith) eb)
 
-  same_end : (n m : ℕ) → IsSome (V.machine.ended (moves V.machine n x)) → IsSome (C.machine.ended (moves C.machine m y)) → V.live (moves V.machine n x) ≡ C.live (moves C.machine m y)
-  same_end n m hv hc =
+  same_end : (n m : ℕ) → most V.machine n x < limit → IsSome (V.machine.ended (moves V.machine n x)) → IsSome (C.machine.ended (moves C.machine m y)) → V.live (moves V.machine n x) ≡ C.live (moves C.machine m y)
+  same_end n m within hv hc =
       let ev = with_live_is (V.machine.ended (moves V.machine n x)) (V.live (moves V.machine n x)) hv in
       let ec = with_live_is (C.machine.ended (moves C.machine m y)) (C.live (moves C.machine m y)) hc in
-      let g = lives_agree.forward n in
+      let g = goes_on n within in
       let u = g.1.ended (ev.0, V.live (moves V.machine n x)) ev.1 in
       let run = showing_is C.machine shown_c only_c y in
       let there = run.stays g.0 (g.0 + m) u.0 (omega arith) u.1 in
       let here = run.stays m (g.0 + m) (ec.0, C.live (moves C.machine m y)) (omega arith) ec.1 in
       u.2.1 ∙ ap (λ z. z.1) (some_same (shown_c (moves C.machine (g.0 + m) y)) u.0 (ec.0, C.live (moves C.machine m y)) there here)
 
-  headline : Headline (observed V x) (observed C y)
-  headline =
+  trace_goes : (n m : ℕ) → Begins (said V.machine n x) (said C.machine m y) → Begins (events (said V.machine n x)) (events (said C.machine m y))
+  trace_goes n m b = cut_begins events events_append (said V.machine n x) (said C.machine m y) b
+
+  trace_goes_back : (n m : ℕ) → Begins (said C.machine n y) (said V.machine m x) → Begins (events (said C.machine n y)) (events (said V.machine m x))
+  trace_goes_back n m b = cut_begins events events_append (said C.machine n y) (said V.machine m x) b
+
+  headline : limit ≡ 2 ^ 63 → Headline (observed V x) (observed C y)
+  headline e =
       record {
-        forward = follows;
-        backward = follows_back;
+        forward = λ n h. let g = follows n (subst (λ k. most V.machine n x < k) (sym e) h) in (g.0, trace_goes n g.0 g.1.trace, g.1.ended);
+        backward = λ n h. let g = follows_back n (subst (λ k. most C.machine n y < k) (sym e) h) in (g.0, trace_goes_back n g.0 g.1.trace, g.1.ended);
         live =
             record {
-              at_return = λ k n m a b _ _ ea eb. same_return k n m a b ea eb;
-              at_end = λ n m _ _ hv hc. same_end n m hv hc;
+              at_return = λ k n m a b h _ ea eb. same_return k n m a b (subst (λ z. most V.machine n x < z) (sym e) h) ea eb;
+              at_end = λ n m h _ hv hc. same_end n m (subst (λ z. most V.machine n x < z) (sym e) h) hv hc;
             };
       }
 
--- A relation of states gives the headline, if related states end in mates with the same things alive, and blocks of steps keep it.
+-- A relation of states gives the headline, if related states end in mates with the same things alive, and blocks of steps
+-- keep it. A block is owed only where one of the two states is within the limits.
+pub answers_headline_within : {S T : Type 0} (V : Meaning S VEnd) (C : Meaning T CEnd) (R : S → T → Type 0)
+    → ((x : S) (y : T) → R x y → SameEnd Mates (V.machine.ended x) (C.machine.ended y))
+    → ((x : S) (y : T) → R x y → IsSome (V.machine.ended x) → V.live x ≡ C.live y)
+    → (s w : ℕ) (bounded : Bool)
+    → ((x : S) (y : T) → R x y → (V.machine.top x < 2 ^ 63) ⊎ (C.machine.top y < 2 ^ 63) → Answers bounded s w V.machine C.machine R x y)
+    → (x : S) (y : T) → R x y → V.machine.top x ≤ C.machine.top y + s → C.machine.top y ≤ V.machine.top x + s
+    → Headline (observed V x) (observed C y)
+answers_headline_within V C R ends lives s w bounded answers x y r top top_too = headline V C R ends lives s w bounded (2 ^ 63) answers x y r top top_too refl
+
+-- the same, where a block is had from all related states
 pub answers_headline : {S T : Type 0} (V : Meaning S VEnd) (C : Meaning T CEnd) (R : S → T → Type 0)
     → ((x : S) (y : T) → R x y → SameEnd Mates (V.machine.ended x) (C.machine.ended y))
     → ((x : S) (y : T) → R x y → IsSome (V.machine.ended x) → V.live x ≡ C.live y)
@@ -165,4 +175,4 @@ pub answers_headline : {S T : Type 0} (V : Meaning S VEnd) (C : Meaning T CEnd) 
     → ((x : S) (y : T) → R x y → Answers bounded s w V.machine C.machine R x y)
     → (x : S) (y : T) → R x y → V.machine.top x ≤ C.machine.top y + s → C.machine.top y ≤ V.machine.top x + s
     → Headline (observed V x) (observed C y)
-answers_headline V C R ends lives s w bounded answers x y r top top_too = headline V C R ends lives s w bounded answers x y r top top_too
+answers_headline V C R ends lives s w bounded answers x y r top top_too = answers_headline_within V C R ends lives s w bounded (λ t u q _. answers t u q) x y r top top_too

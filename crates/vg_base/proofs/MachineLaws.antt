@@ -2,16 +2,17 @@
 use Rattle.std.proofs.Common.{◌≡◌, ℕ, zero, suc, ◌+◌, ◌-◌, ◌*◌, ◌≤◌, ◌<◌, Bool, true, false, max, List, [], ◌++◌, Option, Some, None, ◌⊎◌, inl, inr, refl, sym, ap, ◌∙◌, subst, arith, append_assoc}
 use Rattle.std.specs.Prelude.{IsSome}
 use Rattle.std.proofs.Math.Nat.{mul-le-mul_left}
-use Rattle.vg_base.specs.Run.{Run, IsRun, SameEnd, Limits, Agrees}
-use Rattle.vg_base.specs.Matched.{Pairs, Matched}
+use Rattle.std.proofs.lemmas.Bool.{cases_lt}
+use Rattle.vg_base.specs.Run.{Run, IsRun, SameEnd, Limits, Goes, flipped, Agrees}
+use Rattle.vg_base.specs.Matched.{Same, Near, Pairs, Matched}
 use Rattle.vg_base.specs.Machine.{Machine, unless_ended, move, moves, said, most, run_from, Answers}
-use Rattle.vg_base.proofs.RunLaws.{matched_agrees}
+use Rattle.vg_base.proofs.RunLaws.{Found, goes_zero, goes_later, matched_agrees}
 
 unless_some : {S E F : Type 0} → (o : Option F) (s : S) (n : S × List E) → IsSome o → unless_ended o s n ≡ (s, [])
 unless_some None s n h = cc
 unless_some (Some e) s n h = refl
 
-some_is : {F : Type 0} → (o : Option F) (e : F) → o ≡ Some e → IsSome o
+pub some_is : {F : Type 0} → (o : Option F) (e : F) → o ≡ Some e → IsSome o
 some_is None e h = cc
 some_is (Some f) e h = refl
 
@@ -85,31 +86,57 @@ module _ {S E F : Type 0} (M : Machine S E F) where
 abbrev pub limits : Bool → ℕ → ℕ → Limits
 limits bounded s w = record { bounded = bounded; s = s; a = w; b = 0; c = w; d = 0 }
 
-module _ {S T E F G : Type 0} (bounded : Bool) (s w : ℕ) (M : Machine S E F) (N : Machine T E G) (R : S → T → Type 0) (answers : (x : S) (y : T) → R x y → Answers bounded s w M N R x y) where
-  module _ {H K : Type 0} (mate : H → K → Type 0) (shown : S → Option H) (shown_too : T → Option K) (looks : (x : S) (y : T) → R x y → SameEnd mate (shown x) (shown_too y)) (x0 : S) (y0 : T) where
-    -- what holds at a pair
-    record At (n j : ℕ) : Type 0 where
-      steps : bounded ≡ true → j ≤ w * n
-      steps_too : bounded ≡ true → n ≤ w * j
-      peak : most M n x0 ≤ most N j y0 + s
-      peak_too : most N j y0 ≤ most M n x0 + s
-      trace : said M n x0 ≡ said N j y0
-      related : R (moves M n x0) (moves N j y0)
+-- the same blocks, seen from the other machine
+pub answers_flip : {S T E F G : Type 0} → (bounded : Bool) (s w : ℕ) (M : Machine S E F) (N : Machine T E G) (R : S → T → Type 0) (x : S) (y : T) → Answers bounded s w M N R x y → Answers bounded s w N M (flipped R) y x
+answers_flip bounded s w M N R x y b =
+    record {
+      n = b.j;
+      j = b.n;
+      some = b.some_too;
+      some_too = b.some;
+      short = b.short_too;
+      short_too = b.short;
+      peak = b.peak_too;
+      peak_too = b.peak;
+      said = sym b.said;
+      kept = b.kept;
+    }
 
-    pairs : (k n j : ℕ) → At n j → Pairs mate (limits bounded s w) (run_showing M shown x0) (run_showing N shown_too y0) k n j
-    pairs zero n j h = record { trace = h.trace; ended = looks _ _ h.related }
-    pairs (suc k) n j h =
-        let x = moves M n x0 in
-        let y = moves N j y0 in
-        let b = answers x y h.related in
-        let px : most M (n + b.n) x0 ≤ most N j y0 + s = omega (arith, most_add M n b.n x0, most_end N j y0, b.peak, h.peak) in
-        let py : most N (j + b.j) y0 ≤ most M n x0 + s = omega (arith, most_add N j b.j y0, most_end M n x0, b.peak_too, h.peak_too) in
-        let both : said M n x0 ++ said M b.n x ≡ said N j y0 ++ said N b.j y = ap (λ l. l ++ said M b.n x) h.trace ∙ ap (λ l. said N j y0 ++ l) b.said in
-        let kept : R (moves M (n + b.n) x0) (moves N (j + b.j) y0) = subst (λ t. R t (moves N (j + b.j) y0)) (sym (moves_add M n b.n x0)) (subst (λ t. R (moves M b.n x) t) (sym (moves_add N j b.j y0)) b.kept) in (
-          record { trace = h.trace; ended = looks x y h.related },
-          (
-            n + b.n,
-            j + b.j,
+module _ {S T E F G H K : Type 0} (bounded : Bool) (s w : ℕ) (M : Machine S E F) (N : Machine T E G) (R : S → T → Type 0) (mate : H → K → Type 0) (shown : S → Option H) (shown_too : T → Option K) (looks : (x : S) (y : T) → R x y → SameEnd mate (shown x) (shown_too y)) (x0 : S) (y0 : T) where
+  -- what holds at a pair
+  record At (n j : ℕ) : Type 0 where
+    steps : bounded ≡ true → j ≤ w * n
+    steps_too : bounded ≡ true → n ≤ w * j
+    peak : most M n x0 ≤ most N j y0 + s
+    peak_too : most N j y0 ≤ most M n x0 + s
+    trace : said M n x0 ≡ said N j y0
+    related : R (moves M n x0) (moves N j y0)
+
+  -- a pair that follows
+  record Next (n j : ℕ) : Type 0 where
+    n2 : ℕ
+    j2 : ℕ
+    near : Near (limits bounded s w) (run_showing M shown x0) (run_showing N shown_too y0) n j n2 j2
+    at : At n2 j2
+
+  start : R x0 y0 → M.top x0 ≤ N.top y0 + s → N.top y0 ≤ M.top x0 + s → At 0 0
+  start r p q = record { steps = λ _. omega arith; steps_too = λ _. omega arith; peak = p; peak_too = q; trace = refl; related = r }
+
+  same : (n j : ℕ) → At n j → Same mate (run_showing M shown x0) (run_showing N shown_too y0) n j
+  same n j h = record { trace = h.trace; ended = looks _ _ h.related }
+
+  next : (n j : ℕ) → At n j → Answers bounded s w M N R (moves M n x0) (moves N j y0) → Next n j
+  next n j h b =
+      let x = moves M n x0 in
+      let y = moves N j y0 in
+      let px : most M (n + b.n) x0 ≤ most N j y0 + s = omega (arith, most_add M n b.n x0, most_end N j y0, b.peak, h.peak) in
+      let py : most N (j + b.j) y0 ≤ most M n x0 + s = omega (arith, most_add N j b.j y0, most_end M n x0, b.peak_too, h.peak_too) in
+      let both : said M n x0 ++ said M b.n x ≡ said N j y0 ++ said N b.j y = ap (λ l. l ++ said M b.n x) h.trace ∙ ap (λ l. said N j y0 ++ l) b.said in
+      let kept : R (moves M (n + b.n) x0) (moves N (j + b.j) y0) = subst (λ t. R t (moves N (j + b.j) y0)) (sym (moves_add M n b.n x0)) (subst (λ t. R (moves M b.n x) t) (sym (moves_add N j b.j y0)) b.kept) in
+      record {
+        n2 = n + b.n;
+        j2 = j + b.j;
+        near =
             record {
               rises = omega (arith, b.some);
               rises_too = omega (arith, b.some_too);
@@ -117,30 +144,48 @@ module _ {S T E F G : Type 0} (bounded : Bool) (s w : ℕ) (M : Machine S E F) (
               peak_too = py;
               steps = λ q. (let x1 = b.short_too q in let x2 = h.steps q in omega arith);
               steps_too = λ q. (let x1 = b.short q in let x2 = h.steps_too q in omega arith);
-            },
-            pairs k (n + b.n) (j + b.j)
-                (record {
-                  steps = λ q. (let x1 = b.short_too q in let x2 = h.steps q in omega (arith, mul-le-mul_left w b.some));
-                  steps_too = λ q. (let x1 = b.short q in let x2 = h.steps_too q in omega (arith, mul-le-mul_left w b.some_too));
-                  peak = omega (arith, px, most_climbs N j (j + b.j) y0 (omega arith));
-                  peak_too = omega (arith, py, most_climbs M n (n + b.n) x0 (omega arith));
-                  trace = said_add M n b.n x0 ∙ both ∙ sym (said_add N j b.j y0);
-                  related = kept;
-                }),
-          ),
-        )
+            };
+        at =
+            record {
+              steps = λ q. (let x1 = b.short_too q in let x2 = h.steps q in omega (arith, mul-le-mul_left w b.some));
+              steps_too = λ q. (let x1 = b.short q in let x2 = h.steps_too q in omega (arith, mul-le-mul_left w b.some_too));
+              peak = omega (arith, px, most_climbs N j (j + b.j) y0 (omega arith));
+              peak_too = omega (arith, py, most_climbs M n (n + b.n) x0 (omega arith));
+              trace = said_add M n b.n x0 ∙ both ∙ sym (said_add N j b.j y0);
+              related = kept;
+            };
+      }
 
-    pub showing_match : R x0 y0 → M.top x0 ≤ N.top y0 + s → N.top y0 ≤ M.top x0 + s → Matched mate (limits bounded s w) (run_showing M shown x0) (run_showing N shown_too y0)
-    showing_match r p q k = pairs k 0 0 (record { steps = λ _. omega arith; steps_too = λ _. omega arith; peak = p; peak_too = q; trace = refl; related = r })
+  pairs : ((x : S) (y : T) → R x y → Answers bounded s w M N R x y) → (k n j : ℕ) → At n j → Pairs mate (limits bounded s w) (run_showing M shown x0) (run_showing N shown_too y0) k n j
+  pairs answers zero n j h = same n j h
+  pairs answers (suc k) n j h = let q = next n j h (answers _ _ h.related) in (same n j h, (q.n2, q.j2, q.near, pairs answers k q.n2 q.j2 q.at))
 
-    pub showing_agree : ((x : S) (e : H) → shown x ≡ Some e → IsSome (M.ended x)) → ((y : T) (e : K) → shown_too y ≡ Some e → IsSome (N.ended y)) → R x0 y0 → M.top x0 ≤ N.top y0 + s → N.top y0 ≤ M.top x0 + s → Agrees mate (limits bounded s w) (run_showing M shown x0) (run_showing N shown_too y0)
-    showing_agree only only_too r p q = matched_agrees mate (limits bounded s w) (run_showing M shown x0) (run_showing N shown_too y0) (showing_is M shown only x0) (showing_is N shown_too only_too y0) q p (showing_match r p q)
+  pub showing_match : ((x : S) (y : T) → R x y → Answers bounded s w M N R x y) → R x0 y0 → M.top x0 ≤ N.top y0 + s → N.top y0 ≤ M.top x0 + s → Matched mate (limits bounded s w) (run_showing M shown x0) (run_showing N shown_too y0)
+  showing_match answers r p q k = pairs answers k 0 0 (start r p q)
 
-  -- one induction over blocks serves both directions
-  pub answers_agree : (mate : F → G → Type 0) → ((x : S) (y : T) → R x y → SameEnd mate (M.ended x) (N.ended y)) → (x : S) (y : T) → R x y → M.top x ≤ N.top y + s → N.top y ≤ M.top x + s → Matched mate (limits bounded s w) (run_from M x) (run_from N y) × Agrees mate (limits bounded s w) (run_from M x) (run_from N y)
-  answers_agree mate ends x y r p q =
-      let m = showing_match mate M.ended N.ended ends x y r p q in
-      (m, matched_agrees mate (limits bounded s w) (run_from M x) (run_from N y) (run_is M x) (run_is N y) q p m)
+  -- where the tops so far are below a limit, the blocks that begin below it are enough
+  found_below : (limit : ℕ) → ((x : S) (y : T) → R x y → M.top x < limit → Answers bounded s w M N R x y) → (k n j x : ℕ) → At n j → n < x → x ≤ n + k → most M x x0 < limit → Found mate (limits bounded s w) (run_showing M shown x0) (run_showing N shown_too y0) x
+  found_below limit answers zero n j x h lt le below = absurd (omega arith)
+  found_below limit answers (suc k) n j x h lt le below =
+      let here : M.top (moves M n x0) < limit = omega (arith, most_end M n x0, most_climbs M n x x0 (omega arith)) in
+      let q = next n j h (answers _ _ h.related here) in
+      elim (cases_lt q.n2 x) [
+        | inl less ↦ found_below limit answers k q.n2 q.j2 x q.at less (omega (arith, q.near.rises)) below
+        | inr more ↦ record { n1 = n; j1 = j; n2 = q.n2; j2 = q.j2; near = q.near; below = lt; above = more; same = same q.n2 q.j2 q.at }
+      ]
+
+  module _ (only : (x : S) (e : H) → shown x ≡ Some e → IsSome (M.ended x)) (only_too : (y : T) (e : K) → shown_too y ≡ Some e → IsSome (N.ended y)) (limit : ℕ) (answers : (x : S) (y : T) → R x y → M.top x < limit → Answers bounded s w M N R x y) (r : R x0 y0) (p : M.top x0 ≤ N.top y0 + s) (q : N.top y0 ≤ M.top x0 + s) where
+    pub goes_below : (n : ℕ) → most M n x0 < limit → (m : ℕ) × Goes mate bounded s w 0 (run_showing M shown x0) (run_showing N shown_too y0) n m
+    goes_below zero below = (0, goes_zero mate (limits bounded s w) (run_showing M shown x0) (run_showing N shown_too y0) (showing_is M shown only x0) (showing_is N shown_too only_too y0) q (same 0 0 (start r p q)))
+    goes_below (suc n) below =
+        goes_later mate (limits bounded s w) (run_showing M shown x0) (run_showing N shown_too y0) (showing_is M shown only x0) (showing_is N shown_too only_too y0) q (suc n) (omega arith)
+        (found_below limit answers (suc n) 0 0 (suc n) (start r p q) (omega arith) (omega arith) below)
+
+-- one induction over blocks serves both directions
+pub answers_agree : {S T E F G : Type 0} → (bounded : Bool) (s w : ℕ) (M : Machine S E F) (N : Machine T E G) (R : S → T → Type 0) (mate : F → G → Type 0) → ((x : S) (y : T) → R x y → SameEnd mate (M.ended x) (N.ended y)) → ((x : S) (y : T) → R x y → Answers bounded s w M N R x y) → (x : S) (y : T) → R x y → M.top x ≤ N.top y + s → N.top y ≤ M.top x + s → Matched mate (limits bounded s w) (run_from M x) (run_from N y) × Agrees mate (limits bounded s w) (run_from M x) (run_from N y)
+answers_agree bounded s w M N R mate ends answers x y r p q =
+    let m = showing_match bounded s w M N R mate M.ended N.ended ends x y answers r p q in
+    (m, matched_agrees mate (limits bounded s w) (run_from M x) (run_from N y) (run_is M x) (run_is N y) q p m)
 
 module _ {S T E F G : Type 0} (s : ℕ) (M : Machine S E F) (N : Machine T E G) (R : S → T → Type 0) (size : S → ℕ) where
   -- a step of the first machine that the other does not make: it says nothing, and a measure falls

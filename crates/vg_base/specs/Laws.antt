@@ -1,5 +1,5 @@
 -- What the laws on runs speak of.
-use Rattle.std.specs.Prelude.{◌≡◌, ℕ, ◌+◌, ◌*◌, ◌≤◌, Bool, List, ◌++◌, Some, IsSome, IsTrue}
+use Rattle.std.specs.Prelude.{◌≡◌, ℕ, ◌+◌, ◌*◌, ◌^◌, ◌≤◌, ◌<◌, ◌⊎◌, Bool, List, ◌++◌, Some, IsSome, IsTrue}
 use Rattle.vg_base.specs.declared.event.Stream.{Stream}
 use Rattle.vg_base.specs.declared.event.VEnd.{VEnd}
 use Rattle.vg_base.specs.declared.event.CEnd.{CEnd}
@@ -60,9 +60,10 @@ EndsMeet {S} {T} V C R =
     (x : S) (y : T) → R x y
     → SameEnd Mates (V.machine.ended x) (C.machine.ended y) × (IsSome (V.machine.ended x) → V.live x ≡ C.live y)
 
--- from related states on, blocks of steps lead to related states
+-- from related states on, if one of them is within the limits, blocks of steps lead to related states
 abbrev pub BlocksMeet : {S T : Type 0} → Bool → ℕ → ℕ → Meaning S VEnd → Meaning T CEnd → (S → T → Type 0) → Type 0
-BlocksMeet {S} {T} bounded s w V C R = (x : S) (y : T) → R x y → Answers bounded s w V.machine C.machine R x y
+BlocksMeet {S} {T} bounded s w V C R =
+    (x : S) (y : T) → R x y → (V.machine.top x < 2 ^ 63) ⊎ (C.machine.top y < 2 ^ 63) → Answers bounded s w V.machine C.machine R x y
 
 -- The headline holds from related states on, if such states end alike and blocks of steps keep the relation.
 -- The relation is a test here, as a clause cannot speak of all relations.

@@ -43,7 +43,7 @@ pub fn nothing_is_undefined()
     ensures headline { (V : Observed VEnd) (C : Observed CEnd) → Headline V C → (m : ℕ) (k : UndefKind) → WithinLimits C m → k ≢ Freed → C.ended m ≢ Some (Undefined k) }
 {}
 
-/// The run of a machine is one: what was said stays, and so does an end.
+/// The run of a machine is a run: what was said stays, and so does an end.
 pub fn machines_run<S>()
     ensures vala { (M : Machine S Said VEnd) (s : S) → IsRun (run_from M s) }
     ensures c { (M : Machine S Said CEnd) (s : S) → IsRun (run_from M s) }
@@ -55,7 +55,7 @@ pub fn one_end<S, T>()
     ensures meanings { (V : Meaning S VEnd) (C : Meaning T CEnd) (x : S) (y : T) → Headline (observed V x) (observed C y) → EndsAreMates (observed V x) (observed C y) }
 {}
 
-/// A relation of states that blocks of steps keep gives the headline.
+/// A relation of states that blocks of steps keep gives the headline. A block is owed only within the limits.
 pub fn blocks_give_headline<S, T>()
     ensures { BlocksGiveHeadline S T }
 {}
