@@ -1,1 +1,4 @@
 pub mod OutsideLaws
+pub mod ScannerLemmas
+pub mod CallLemmas
+pub mod SpellingLemmas
