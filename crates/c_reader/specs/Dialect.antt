@@ -2,6 +2,8 @@
 use Rattle.std.specs.Prelude.{◌≡◌, ℕ, ◌≤◌, ◌<◌, List, [], ◌∷◌, ◌++◌, length, replicate, Result, Ok, Err, codes}
 use Rattle.vg_base.specs.declared.small.Token.{Token}
 use Rattle.vg_base.specs.declared.small.Token.TheVariants.{Word, Sign, Include}
+use Rattle.vg_base.specs.declared.event.Fault.{Fault}
+use Rattle.vg_base.specs.declared.event.Fault.TheVariants.{Refused, Memory}
 use Rattle.vg_base.specs.Small.{Lexes, calls_between}
 use Rattle.c_reader.specs.declared.refusal.CCause.{CCause}
 use Rattle.c_reader.specs.declared.refusal.CCause.TheVariants.{C2, C6}
@@ -39,3 +41,9 @@ cause_name C6 = codes "C6"
 abbrev pub cause_text : CCause → List ℕ
 cause_text C2 = codes "not in the dialect"
 cause_text C6 = codes "too large"
+
+-- what reading gives; want of memory says nothing
+abbrev pub Reading : List ℕ → ℕ → Result Texts (Fault CRefusal) → Type 0
+Reading bytes limit (Ok u) = Answers bytes limit (Ok u)
+Reading bytes limit (Err (Refused r)) = Answers bytes limit (Err r)
+Reading bytes limit (Err Memory) = Unit {0}
