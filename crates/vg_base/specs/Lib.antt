@@ -4,3 +4,4 @@ pub mod Machine
 pub mod World
 pub mod Headline
 pub mod Outside
+pub mod Memory
