@@ -6,3 +6,4 @@ pub mod EndLaws
 pub mod ScannerLemmas
 pub mod CallLemmas
 pub mod SpellingLemmas
+pub mod MemoryLaws

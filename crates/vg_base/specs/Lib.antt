@@ -7,3 +7,4 @@ pub mod Outside
 pub mod Small
 pub mod Laws
 pub mod Scanner
+pub mod Memory

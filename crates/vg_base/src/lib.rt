@@ -4,6 +4,11 @@
 mod calls;
 mod event;
 mod laws;
+mod mem_folder;
+mod mem_sink;
+mod memory;
+#[cfg(test)]
+mod memory_tests;
 mod outside;
 mod scanner;
 mod small;
@@ -19,6 +24,8 @@ pub use laws::{
     agreement_composes, blocks_agree, blocks_give_headline, machines_run, mates_are_unique,
     nothing_is_undefined, one_end, prints_agree, runs_that_match_agree,
 };
+pub use mem_folder::{GoodFolder, MemFolder};
+pub use mem_sink::{GoodSink, MemSink};
 pub use outside::{Call, Folder, FolderFault, PutFault, Sink, SinkFault, put_all};
 pub use scanner::tokens;
 pub use small::{
