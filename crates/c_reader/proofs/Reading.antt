@@ -1,5 +1,5 @@
 -- Where the lines `#include` end.
-use Rattle.std.proofs.Common.{◌≡◌, ◌≢◌, ℕ, zero, suc, ◌+◌, List, [], ◌∷◌, ◌++◌, take, drop, replicate, Option, Some, None, MatchOption, refl, sym, ap, ◌∙◌, subst, slice_get, codes, Result, Ok, Err, IfOk}
+use Rattle.std.proofs.Common.{◌≡◌, ◌≢◌, ℕ, zero, suc, List, [], ◌∷◌, ◌++◌, take, drop, replicate, Option, Some, None, MatchOption, sym, ap, ◌∙◌, subst, slice_get, codes, Result, Ok, Err, IfOk}
 use Rattle.std.specs.declared.vec.Vec.{Vec}
 use Rattle.std.specs.declared.alloc.Global.{Global}
 use Rattle.vg_base.specs.declared.event.Memory.{Memory}

@@ -1,10 +1,9 @@
 -- What a unit of C means: its states, its steps and its runs.
-use Rattle.std.specs.Prelude.{◌≡◌, ℕ, List, [], ◌∷◌, ◌++◌, map, Option, Some, None, pos}
+use Rattle.std.specs.Prelude.{ℕ, List, [], ◌∷◌, ◌++◌, map, Option, Some, None, pos}
 use Rattle.vg_base.specs.declared.event.Event.TheVariants.{Print}
 use Rattle.vg_base.specs.declared.event.Stream.TheVariants.{Out}
 use Rattle.vg_base.specs.declared.event.CEnd.{CEnd}
 use Rattle.vg_base.specs.declared.event.CEnd.TheVariants.{Ended}
-use Rattle.vg_base.specs.Machine.{Machine}
 use Rattle.vg_base.specs.World.{World}
 use Rattle.vg_base.specs.Headline.{Said, Happens, Meaning, Observed, observed}
 use Rattle.c_reader.specs.Dialect.{Texts}

@@ -1,7 +1,7 @@
 -- What is observed of a run, and the sentence that the C run and the Vala run agree in it.
 use Rattle.std.specs.Prelude.{◌≡◌, ℕ, ◌<◌, ◌^◌, List, [], ◌∷◌, ◌++◌, Option, Some, slice_get, IsSome}
 use Rattle.vg_base.specs.declared.event.Event.{Event}
-use Rattle.vg_base.specs.declared.event.Event.TheVariants.{Print, Made, Gone, Dispatch}
+use Rattle.vg_base.specs.declared.event.Event.TheVariants.{Print}
 use Rattle.vg_base.specs.declared.event.Stream.{Stream}
 use Rattle.vg_base.specs.declared.event.Stream.TheVariants.{Out, Err}
 use Rattle.vg_base.specs.declared.event.LiveRow.{LiveRow}

@@ -1,5 +1,5 @@
 -- Runs, and how two of them agree.
-use Rattle.std.specs.Prelude.{◌≡◌, ℕ, zero, suc, ◌+◌, ◌*◌, ◌≤◌, ◌<◌, Bool, true, List, ◌++◌, Option, Some, None}
+use Rattle.std.specs.Prelude.{◌≡◌, ℕ, ◌+◌, ◌*◌, ◌≤◌, Bool, true, List, ◌++◌, Option, Some, None}
 
 -- a run: what was said, the end if there is one, and the greatest count so far, after n steps
 pub record Run (E F : Type 0) : Type 0 where

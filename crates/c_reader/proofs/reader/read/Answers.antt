@@ -1,4 +1,3 @@
-use Rattle.std.proofs.Common.{arith}
 use Rattle.c_reader.specs.Dialect.{unit, outside, large}
 use Rattle.c_reader.proofs.reader.read.Goals as goal
 

@@ -1,5 +1,5 @@
-use Rattle.std.proofs.Common.{◌+◌, ◌≤◌, take, arith, length-drop}
-use Rattle.vg_base.proofs.OutsideLaws.{takes_none, takes_more}
+use Rattle.std.proofs.Common.{arith, length-drop}
+use Rattle.vg_base.proofs.OutsideLaws.{takes_more}
 use Rattle.vg_base.proofs.outside.put_all.Goals as goal
 
 pub loop-taken-preserved : goal.loop-taken-preserved

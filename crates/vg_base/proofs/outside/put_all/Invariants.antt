@@ -1,4 +1,4 @@
-use Rattle.std.proofs.Common.{length, ◌-◌, ◌≡◌, ℕ, ◌≤◌, take}
+use Rattle.std.proofs.Common.{length, ◌-◌, ◌≤◌, take}
 use Rattle.vg_base.specs.Outside.{Takes}
 use Rattle.vg_base.proofs.outside.put_all.Given as goal
 
