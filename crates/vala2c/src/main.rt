@@ -1,0 +1,7 @@
+// The program vala2c.
+#![tactic(auto)]
+
+mod status;
+mod words;
+
+fn main() {}
