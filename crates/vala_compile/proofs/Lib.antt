@@ -1,0 +1,5 @@
+pub mod LawStubs
+pub mod Reading
+pub mod Emitting
+pub mod Simulation
+pub mod Theorem
