@@ -1,1 +1,5 @@
 pub mod OutsideLaws
+pub mod RunLaws
+pub mod MachineLaws
+pub mod HeadlineLaws
+pub mod EndLaws

@@ -5,3 +5,4 @@ pub mod World
 pub mod Headline
 pub mod Outside
 pub mod Small
+pub mod Laws

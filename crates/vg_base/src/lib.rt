@@ -2,12 +2,17 @@
 #![tactic(auto)]
 
 mod event;
+mod laws;
 mod outside;
 mod small;
 
 pub use event::{
     Bytes, CEnd, Entry, Event, Fault, LiveRow, Memory, Span, Stream, ThingKind, TrapKind,
     UndefKind, VEnd,
+};
+pub use laws::{
+    agreement_composes, blocks_give_headline, machines_run, mates_are_unique, nothing_is_undefined,
+    one_end, prints_agree, runs_that_match_agree,
 };
 pub use outside::{Call, Folder, FolderFault, PutFault, Sink, SinkFault, put_all};
 pub use small::{Piece, Token};
