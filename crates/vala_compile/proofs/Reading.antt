@@ -21,7 +21,7 @@ reads_one _ _ (reads bytes p small lexes) = (small, lexes)
 
 pub one_program : (files : List (List ℕ)) (p q : Program) → Reads files p → Reads files q → p ≡ q
 one_program _ p q (reads bytes _ small lexes) r =
-    one_list_of_texts opening (codes "print") closing p q tt (one_list_of_tokens bytes (tokens_of p) (tokens_of q) lexes (reads_one bytes q r).1)
+    one_list_of_texts opening closing (codes "print") p q tt (one_list_of_tokens bytes (tokens_of p) (tokens_of q) lexes (reads_one bytes q r).1)
 
 -- a list of one
 one_item : {A : Type 0} (xs : List A) (x : A) → length xs ≡ 1 → x ≡ get_or xs 0 x → xs ≡ x ∷ []

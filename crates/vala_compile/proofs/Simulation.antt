@@ -10,7 +10,7 @@ use Rattle.vg_base.specs.Headline.{Meaning, observed, Headline}
 use Rattle.c_reader.specs.CMeaning.{CState, c_opening, c_meaning, body, CRun}
 use Rattle.vala_compile.specs.Program.{Program}
 use Rattle.vala_compile.specs.VMeaning.{VState, Statement, Leave, v_opening, v_meaning, v_live, VRun}
-use Rattle.vala_compile.proofs.LawStubs.{answers_headline}
+use Rattle.vg_base.proofs.HeadlineLaws.{answers_headline}
 
 -- the program in `main`, with these statements left
 abbrev v_inside : Program → VState

@@ -51,3 +51,55 @@ pub fn compile(
         Err(_) => Err(Fault::Memory),
     }
 }
+
+#[cfg(test)]
+mod tests {
+    use super::*;
+    use std::test::Fail;
+
+    const HI: &str = "void main () { print (\"hi\\n\"); }";
+    const HI_IN_C: &str = "#include <glib.h>\n\nint\nmain (int argc, char **argv)\n{\n  g_print (\"hi\\n\");\n  return 0;\n}\n";
+
+    #[test]
+    fn writes_the_c_of_a_program(rt: HostRuntime) -> Result<(), Fail> {
+        let alloc = rt.alloc();
+        let files = vec![in alloc; Vec::from_slice(alloc, HI.as_bytes())?]?;
+        let emitted = compile(alloc, &files, "hi", false)?;
+        assert_eq!(rt; emitted.c.as_slice(), HI_IN_C.as_bytes());
+        Ok(())
+    }
+
+    fn is_left_out(alloc: Global, files: &[Vec<u8>]) -> bool {
+        match compile(alloc, files, "hi", true) {
+            Err(Fault::Refused(refusal)) => matches!(refusal.rule, Rule::U1) && refusal.phase == 7,
+            _ => false,
+        }
+    }
+
+    #[test]
+    fn refuses_what_is_no_program(rt: HostRuntime) -> Result<(), Fail> {
+        let alloc = rt.alloc();
+        for source in ["class A {}", "", "void main () { print (\"50%\"); }", "void main () {"] {
+            let files = vec![in alloc; Vec::from_slice(alloc, source.as_bytes())?]?;
+            assert!(rt; is_left_out(alloc, &files), "at {source}");
+        }
+        let two = vec![in alloc; Vec::from_slice(alloc, HI.as_bytes())?, Vec::new(alloc)]?;
+        assert!(rt; is_left_out(alloc, &two));
+        let large = vec![in alloc; vec![in alloc; b' '; 1_048_577]?]?;
+        assert!(rt; is_left_out(alloc, &large));
+        Ok(())
+    }
+
+    #[test]
+    fn takes_the_largest_file(rt: HostRuntime) -> Result<(), Fail> {
+        let alloc = rt.alloc();
+        let mut bytes = Vec::from_slice(alloc, b"void main () {}")?;
+        for _ in bytes.len()..1_048_576 {
+            bytes.push(b' ')?;
+        }
+        let files = vec![in alloc; bytes]?;
+        let emitted = compile(alloc, &files, "hi", false)?;
+        assert!(rt; emitted.c.as_slice().ends_with(b"{\n  return 0;\n}\n"));
+        Ok(())
+    }
+}
