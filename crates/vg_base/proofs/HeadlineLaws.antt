@@ -9,13 +9,13 @@ use Rattle.vg_base.specs.declared.event.Stream.TheVariants.{Out, Err}
 use Rattle.vg_base.specs.declared.event.LiveRow.{LiveRow}
 use Rattle.vg_base.specs.declared.event.VEnd.{VEnd}
 use Rattle.vg_base.specs.declared.event.CEnd.{CEnd}
-use Rattle.vg_base.specs.Run.{Begins, SameEnd, Goes, flipped}
-use Rattle.vg_base.specs.Machine.{moves, said, most, run_from, Answers}
+use Rattle.vg_base.specs.Run.{Begins, EndGoes, SameEnd, flipped}
+use Rattle.vg_base.specs.Machine.{moves, said, most, Answers}
 use Rattle.vg_base.specs.World.{Mates}
 use Rattle.vg_base.specs.Headline.{Said, Happens, Returns, Meaning, events, returns, observed, Headline, printed}
-use Rattle.vg_base.specs.Laws.{Parts, EndStays, printed_by}
+use Rattle.vg_base.specs.Laws.{Parts, EndStays, printed_by, Meets}
 use Rattle.vg_base.proofs.RunLaws.{cut_begins, same_flip}
-use Rattle.vg_base.proofs.MachineLaws.{some_is, run_showing, showing_is, run_is, answers_flip, goes_below}
+use Rattle.vg_base.proofs.MachineLaws.{some_is, showing_is, run_is, answers_meet, meets_flip, meets_go}
 
 -- The parts of what is said
 
@@ -85,7 +85,7 @@ pub observed_stays : {S F : Type 0} → (M : Meaning S F) (s : S) → EndStays (
 observed_stays M s = (run_is M.machine s).stays
 
 -- The limit is a variable here, so that no proof computes it.
-module _ {S T : Type 0} (V : Meaning S VEnd) (C : Meaning T CEnd) (R : S → T → Type 0) (ends : (x : S) (y : T) → R x y → SameEnd Mates (V.machine.ended x) (C.machine.ended y)) (lives : (x : S) (y : T) → R x y → IsSome (V.machine.ended x) → V.live x ≡ C.live y) (s w : ℕ) (bounded : Bool) (limit : ℕ) (answers : (x : S) (y : T) → R x y → (V.machine.top x < limit) ⊎ (C.machine.top y < limit) → Answers bounded s w V.machine C.machine R x y) (x : S) (y : T) (r : R x y) (top : V.machine.top x ≤ C.machine.top y + s) (top_too : C.machine.top y ≤ V.machine.top x + s) where
+module _ {S T : Type 0} (V : Meaning S VEnd) (C : Meaning T CEnd) (R : S → T → Type 0) (ends : (x : S) (y : T) → R x y → SameEnd Mates (V.machine.ended x) (C.machine.ended y)) (lives : (x : S) (y : T) → R x y → IsSome (V.machine.ended x) → V.live x ≡ C.live y) (limit : ℕ) (meets : (x : S) (y : T) → R x y → (V.machine.top x < limit) ⊎ (C.machine.top y < limit) → Meets V.machine C.machine R x y) (x : S) (y : T) (r : R x y) where
   -- the end of a state with what lives there
   abbrev shown_v : S → Option (VEnd × List LiveRow)
   shown_v t = with_live (V.machine.ended t) (V.live t)
@@ -102,15 +102,15 @@ module _ {S T : Type 0} (V : Meaning S VEnd) (C : Meaning T CEnd) (R : S → T �
   looks : (t : S) (u : T) → R t u → SameEnd BothMate (shown_v t) (shown_c u)
   looks t u q = with_live_same (V.machine.ended t) (C.machine.ended u) (V.live t) (C.live u) (ends t u q) (lives t u q)
 
-  -- the ends of the two runs, each with what lives there
-  goes_on : (n : ℕ) → most V.machine n x < limit → (m : ℕ) × Goes BothMate bounded s w 0 (run_showing V.machine shown_v x) (run_showing C.machine shown_c y) n m
-  goes_on = goes_below bounded s w V.machine C.machine R BothMate shown_v shown_c looks x y only_v only_c limit (λ t u q h. answers t u q (inl h)) r top top_too
+  -- the second run goes along, and what lives at its end is the same
+  goes_on : (n : ℕ) → most V.machine n x < limit → (m : ℕ) × Begins (said V.machine n x) (said C.machine m y) × EndGoes BothMate (shown_v (moves V.machine n x)) (shown_c (moves C.machine m y))
+  goes_on = meets_go V.machine C.machine R limit (λ t u q h. meets t u q (inl h)) x y BothMate shown_v shown_c looks only_v r
 
-  follows : (n : ℕ) → most V.machine n x < limit → (m : ℕ) × Goes Mates bounded s w 0 (run_from V.machine x) (run_from C.machine y) n m
-  follows = goes_below bounded s w V.machine C.machine R Mates V.machine.ended C.machine.ended ends x y (λ t. some_is (V.machine.ended t)) (λ u. some_is (C.machine.ended u)) limit (λ t u q h. answers t u q (inl h)) r top top_too
+  follows : (n : ℕ) → most V.machine n x < limit → (m : ℕ) × Begins (said V.machine n x) (said C.machine m y) × EndGoes Mates (V.machine.ended (moves V.machine n x)) (C.machine.ended (moves C.machine m y))
+  follows = meets_go V.machine C.machine R limit (λ t u q h. meets t u q (inl h)) x y Mates V.machine.ended C.machine.ended ends (λ t. some_is (V.machine.ended t)) r
 
-  follows_back : (n : ℕ) → most C.machine n y < limit → (m : ℕ) × Goes (flipped Mates) bounded s w 0 (run_from C.machine y) (run_from V.machine x) n m
-  follows_back = goes_below bounded s w C.machine V.machine (flipped R) (flipped Mates) C.machine.ended V.machine.ended (λ u t q. same_flip Mates (V.machine.ended t) (C.machine.ended u) (ends t u q)) y x (λ u. some_is (C.machine.ended u)) (λ t. some_is (V.machine.ended t)) limit (λ u t q h. answers_flip bounded s w V.machine C.machine R t u (answers t u q (inr h))) r top_too top
+  follows_back : (n : ℕ) → most C.machine n y < limit → (m : ℕ) × Begins (said C.machine n y) (said V.machine m x) × EndGoes (flipped Mates) (C.machine.ended (moves C.machine n y)) (V.machine.ended (moves V.machine m x))
+  follows_back = meets_go C.machine V.machine (flipped R) limit (λ u t q h. meets_flip V.machine C.machine R t u (meets t u q (inr h))) y x (flipped Mates) C.machine.ended V.machine.ended (λ u t q. same_flip Mates (V.machine.ended t) (C.machine.ended u) (ends t u q)) (λ u. some_is (C.machine.ended u)) r
 
   -- what the second run returned after m steps stands in what it returned after more
   later : (n m k : ℕ) (rows : List LiveRow) → n ≤ m → slice_get (returns (said C.machine n y)) k ≡ Some rows → slice_get (returns (said C.machine m y)) k ≡ Some rows
@@ -123,7 +123,7 @@ module _ {S T : Type 0} (V : Meaning S VEnd) (C : Meaning T CEnd) (R : S → T �
       let g = follows n within in
       let there : slice_get (returns (said C.machine g.0 y)) k ≡ Some a =
       begins_get (returns (said V.machine n x)) (returns (said C.machine g.0 y)) k a
-      (cut_begins returns returns_append (said V.machine n x) (said C.machine g.0 y) g.1.trace) ea in
+      (cut_begins returns returns_append (said V.machine n x) (said C.machine g.0 y) g.1) ea in
       some_same (slice_get (returns (said C.machine (g.0 + m) y)) k) a b
       (later g.0 (g.0 + m) k a (omega arith) there) (later m (g.0 + m) k b (omega arith) eb)
 
@@ -132,7 +132,7 @@ module _ {S T : Type 0} (V : Meaning S VEnd) (C : Meaning T CEnd) (R : S → T �
       let ev = with_live_is (V.machine.ended (moves V.machine n x)) (V.live (moves V.machine n x)) hv in
       let ec = with_live_is (C.machine.ended (moves C.machine m y)) (C.live (moves C.machine m y)) hc in
       let g = goes_on n within in
-      let u = g.1.ended (ev.0, V.live (moves V.machine n x)) ev.1 in
+      let u = g.2 (ev.0, V.live (moves V.machine n x)) ev.1 in
       let run = showing_is C.machine shown_c only_c y in
       let there = run.stays g.0 (g.0 + m) u.0 (omega arith) u.1 in
       let here = run.stays m (g.0 + m) (ec.0, C.live (moves C.machine m y)) (omega arith) ec.1 in
@@ -147,8 +147,8 @@ module _ {S T : Type 0} (V : Meaning S VEnd) (C : Meaning T CEnd) (R : S → T �
   headline : limit ≡ 2 ^ 63 → Headline (observed V x) (observed C y)
   headline e =
       record {
-        forward = λ n h. let g = follows n (subst (λ k. most V.machine n x < k) (sym e) h) in (g.0, trace_goes n g.0 g.1.trace, g.1.ended);
-        backward = λ n h. let g = follows_back n (subst (λ k. most C.machine n y < k) (sym e) h) in (g.0, trace_goes_back n g.0 g.1.trace, g.1.ended);
+        forward = λ n h. let g = follows n (subst (λ k. most V.machine n x < k) (sym e) h) in (g.0, trace_goes n g.0 g.1, g.2);
+        backward = λ n h. let g = follows_back n (subst (λ k. most C.machine n y < k) (sym e) h) in (g.0, trace_goes_back n g.0 g.1, g.2);
         live =
             record {
               at_return = λ k n m a b h _ ea eb. same_return k n m a b (subst (λ z. most V.machine n x < z) (sym e) h) ea eb;
@@ -158,16 +158,14 @@ module _ {S T : Type 0} (V : Meaning S VEnd) (C : Meaning T CEnd) (R : S → T �
 
 -- A relation of states gives the headline, if related states end in mates with the same things alive, and blocks of steps
 -- keep it. A block is owed only where one of the two states is within the limits.
-pub answers_headline_within : {S T : Type 0} (V : Meaning S VEnd) (C : Meaning T CEnd) (R : S → T → Type 0)
+pub meets_headline : {S T : Type 0} (V : Meaning S VEnd) (C : Meaning T CEnd) (R : S → T → Type 0)
     → ((x : S) (y : T) → R x y → SameEnd Mates (V.machine.ended x) (C.machine.ended y))
     → ((x : S) (y : T) → R x y → IsSome (V.machine.ended x) → V.live x ≡ C.live y)
-    → (s w : ℕ) (bounded : Bool)
-    → ((x : S) (y : T) → R x y → (V.machine.top x < 2 ^ 63) ⊎ (C.machine.top y < 2 ^ 63) → Answers bounded s w V.machine C.machine R x y)
-    → (x : S) (y : T) → R x y → V.machine.top x ≤ C.machine.top y + s → C.machine.top y ≤ V.machine.top x + s
-    → Headline (observed V x) (observed C y)
-answers_headline_within V C R ends lives s w bounded answers x y r top top_too = headline V C R ends lives s w bounded (2 ^ 63) answers x y r top top_too refl
+    → ((x : S) (y : T) → R x y → (V.machine.top x < 2 ^ 63) ⊎ (C.machine.top y < 2 ^ 63) → Meets V.machine C.machine R x y)
+    → (x : S) (y : T) → R x y → Headline (observed V x) (observed C y)
+meets_headline V C R ends lives meets x y r = headline V C R ends lives (2 ^ 63) meets x y r refl
 
--- the same, where a block is had from all related states
+-- the same for blocks with bounds, had from all related states
 pub answers_headline : {S T : Type 0} (V : Meaning S VEnd) (C : Meaning T CEnd) (R : S → T → Type 0)
     → ((x : S) (y : T) → R x y → SameEnd Mates (V.machine.ended x) (C.machine.ended y))
     → ((x : S) (y : T) → R x y → IsSome (V.machine.ended x) → V.live x ≡ C.live y)
@@ -175,4 +173,4 @@ pub answers_headline : {S T : Type 0} (V : Meaning S VEnd) (C : Meaning T CEnd) 
     → ((x : S) (y : T) → R x y → Answers bounded s w V.machine C.machine R x y)
     → (x : S) (y : T) → R x y → V.machine.top x ≤ C.machine.top y + s → C.machine.top y ≤ V.machine.top x + s
     → Headline (observed V x) (observed C y)
-answers_headline V C R ends lives s w bounded answers x y r top top_too = answers_headline_within V C R ends lives s w bounded (λ t u q _. answers t u q) x y r top top_too
+answers_headline V C R ends lives s w bounded answers x y r top top_too = meets_headline V C R ends lives (λ t u q _. answers_meet bounded s w V.machine C.machine R t u (answers t u q)) x y r

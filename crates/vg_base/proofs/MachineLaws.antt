@@ -3,10 +3,11 @@ use Rattle.std.proofs.Common.{◌≡◌, ℕ, zero, suc, ◌+◌, ◌-◌, ◌*�
 use Rattle.std.specs.Prelude.{IsSome}
 use Rattle.std.proofs.Math.Nat.{mul-le-mul_left}
 use Rattle.std.proofs.lemmas.Bool.{cases_lt}
-use Rattle.vg_base.specs.Run.{Run, IsRun, SameEnd, Limits, Goes, flipped, Agrees}
+use Rattle.vg_base.specs.Run.{Run, IsRun, Begins, EndGoes, SameEnd, flipped, Agrees}
 use Rattle.vg_base.specs.Matched.{Same, Near, Pairs, Matched}
 use Rattle.vg_base.specs.Machine.{Machine, unless_ended, move, moves, said, most, run_from, Answers}
-use Rattle.vg_base.proofs.RunLaws.{Found, goes_zero, goes_later, matched_agrees}
+use Rattle.vg_base.specs.Laws.{limits, Meets, Alone}
+use Rattle.vg_base.proofs.RunLaws.{same_goes, matched_agrees}
 
 unless_some : {S E F : Type 0} → (o : Option F) (s : S) (n : S × List E) → IsSome o → unless_ended o s n ≡ (s, [])
 unless_some None s n h = cc
@@ -83,25 +84,6 @@ module _ {S E F : Type 0} (M : Machine S E F) where
   pub run_is : (s : S) → IsRun (run_from M s)
   run_is s = showing_is M.ended (λ x e h. some_is (M.ended x) e h) s
 
-abbrev pub limits : Bool → ℕ → ℕ → Limits
-limits bounded s w = record { bounded = bounded; s = s; a = w; b = 0; c = w; d = 0 }
-
--- the same blocks, seen from the other machine
-pub answers_flip : {S T E F G : Type 0} → (bounded : Bool) (s w : ℕ) (M : Machine S E F) (N : Machine T E G) (R : S → T → Type 0) (x : S) (y : T) → Answers bounded s w M N R x y → Answers bounded s w N M (flipped R) y x
-answers_flip bounded s w M N R x y b =
-    record {
-      n = b.j;
-      j = b.n;
-      some = b.some_too;
-      some_too = b.some;
-      short = b.short_too;
-      short_too = b.short;
-      peak = b.peak_too;
-      peak_too = b.peak;
-      said = sym b.said;
-      kept = b.kept;
-    }
-
 module _ {S T E F G H K : Type 0} (bounded : Bool) (s w : ℕ) (M : Machine S E F) (N : Machine T E G) (R : S → T → Type 0) (mate : H → K → Type 0) (shown : S → Option H) (shown_too : T → Option K) (looks : (x : S) (y : T) → R x y → SameEnd mate (shown x) (shown_too y)) (x0 : S) (y0 : T) where
   -- what holds at a pair
   record At (n j : ℕ) : Type 0 where
@@ -163,47 +145,56 @@ module _ {S T E F G H K : Type 0} (bounded : Bool) (s w : ℕ) (M : Machine S E 
   pub showing_match : ((x : S) (y : T) → R x y → Answers bounded s w M N R x y) → R x0 y0 → M.top x0 ≤ N.top y0 + s → N.top y0 ≤ M.top x0 + s → Matched mate (limits bounded s w) (run_showing M shown x0) (run_showing N shown_too y0)
   showing_match answers r p q k = pairs answers k 0 0 (start r p q)
 
-  -- where the tops so far are below a limit, the blocks that begin below it are enough
-  found_below : (limit : ℕ) → ((x : S) (y : T) → R x y → M.top x < limit → Answers bounded s w M N R x y) → (k n j x : ℕ) → At n j → n < x → x ≤ n + k → most M x x0 < limit → Found mate (limits bounded s w) (run_showing M shown x0) (run_showing N shown_too y0) x
-  found_below limit answers zero n j x h lt le below = absurd (omega arith)
-  found_below limit answers (suc k) n j x h lt le below =
-      let here : M.top (moves M n x0) < limit = omega (arith, most_end M n x0, most_climbs M n x x0 (omega arith)) in
-      let q = next n j h (answers _ _ h.related here) in
-      elim (cases_lt q.n2 x) [
-        | inl less ↦ found_below limit answers k q.n2 q.j2 x q.at less (omega (arith, q.near.rises)) below
-        | inr more ↦ record { n1 = n; j1 = j; n2 = q.n2; j2 = q.j2; near = q.near; below = lt; above = more; same = same q.n2 q.j2 q.at }
-      ]
-
-  module _ (only : (x : S) (e : H) → shown x ≡ Some e → IsSome (M.ended x)) (only_too : (y : T) (e : K) → shown_too y ≡ Some e → IsSome (N.ended y)) (limit : ℕ) (answers : (x : S) (y : T) → R x y → M.top x < limit → Answers bounded s w M N R x y) (r : R x0 y0) (p : M.top x0 ≤ N.top y0 + s) (q : N.top y0 ≤ M.top x0 + s) where
-    pub goes_below : (n : ℕ) → most M n x0 < limit → (m : ℕ) × Goes mate bounded s w 0 (run_showing M shown x0) (run_showing N shown_too y0) n m
-    goes_below zero below = (0, goes_zero mate (limits bounded s w) (run_showing M shown x0) (run_showing N shown_too y0) (showing_is M shown only x0) (showing_is N shown_too only_too y0) q (same 0 0 (start r p q)))
-    goes_below (suc n) below =
-        goes_later mate (limits bounded s w) (run_showing M shown x0) (run_showing N shown_too y0) (showing_is M shown only x0) (showing_is N shown_too only_too y0) q (suc n) (omega arith)
-        (found_below limit answers (suc n) 0 0 (suc n) (start r p q) (omega arith) (omega arith) below)
-
 -- one induction over blocks serves both directions
 pub answers_agree : {S T E F G : Type 0} → (bounded : Bool) (s w : ℕ) (M : Machine S E F) (N : Machine T E G) (R : S → T → Type 0) (mate : F → G → Type 0) → ((x : S) (y : T) → R x y → SameEnd mate (M.ended x) (N.ended y)) → ((x : S) (y : T) → R x y → Answers bounded s w M N R x y) → (x : S) (y : T) → R x y → M.top x ≤ N.top y + s → N.top y ≤ M.top x + s → Matched mate (limits bounded s w) (run_from M x) (run_from N y) × Agrees mate (limits bounded s w) (run_from M x) (run_from N y)
 answers_agree bounded s w M N R mate ends answers x y r p q =
     let m = showing_match bounded s w M N R mate M.ended N.ended ends x y answers r p q in
     (m, matched_agrees mate (limits bounded s w) (run_from M x) (run_from N y) (run_is M x) (run_is N y) q p m)
 
-module _ {S T E F G : Type 0} (s : ℕ) (M : Machine S E F) (N : Machine T E G) (R : S → T → Type 0) (size : S → ℕ) where
-  -- a step of the first machine that the other does not make: it says nothing, and a measure falls
-  pub record Alone (x : S) (y : T) : Type 0 where
-    pub quiet : (move M x).1 ≡ []
-    pub falls : size (move M x).0 < size x
-    pub kept : R (move M x).0 y
+-- a block with its bounds is a block, also seen from the other machine
+pub answers_meet : {S T E F G : Type 0} → (bounded : Bool) (s w : ℕ) (M : Machine S E F) (N : Machine T E G) (R : S → T → Type 0) (x : S) (y : T) → Answers bounded s w M N R x y → Meets M N R x y
+answers_meet bounded s w M N R x y b = record { n = b.n; j = b.j; some = b.some; some_too = b.some_too; said = b.said; kept = b.kept }
 
-  -- a block, or a step alone
-  pub record Meets (x : S) (y : T) : Type 0 where
-    pub n : ℕ
-    pub j : ℕ
-    pub some : 0 < n
-    pub some_too : 0 < j
-    pub said : said M n x ≡ said N j y
-    pub kept : R (moves M n x) (moves N j y)
+pub meets_flip : {S T E F G : Type 0} → (M : Machine S E F) (N : Machine T E G) (R : S → T → Type 0) (x : S) (y : T) → Meets M N R x y → Meets N M (flipped R) y x
+meets_flip M N R x y b = record { n = b.j; j = b.n; some = b.some_too; some_too = b.some; said = sym b.said; kept = b.kept }
 
-  more : (x : S) (y : T) → Alone x y → Meets (move M x).0 y → Meets x y
+-- Blocks that begin where the count is below a limit.
+module _ {S T E F G : Type 0} (M : Machine S E F) (N : Machine T E G) (R : S → T → Type 0) (limit : ℕ) (meets : (x : S) (y : T) → R x y → M.top x < limit → Meets M N R x y) (x0 : S) (y0 : T) where
+  -- related states at or after n steps of the first
+  record Reached (n : ℕ) : Type 0 where
+    n2 : ℕ
+    j2 : ℕ
+    above : n ≤ n2
+    same : said M n2 x0 ≡ said N j2 y0
+    related : R (moves M n2 x0) (moves N j2 y0)
+
+  reach : (k n j x : ℕ) → said M n x0 ≡ said N j y0 → R (moves M n x0) (moves N j y0) → x ≤ n + k → most M x x0 < limit → Reached x
+  reach zero n j x e r le below = record { n2 = n; j2 = j; above = omega arith; same = e; related = r }
+  reach (suc k) n j x e r le below =
+      elim (cases_lt n x) [
+        | inr past ↦ record { n2 = n; j2 = j; above = past; same = e; related = r }
+        | inl less ↦
+            let here : M.top (moves M n x0) < limit = omega (arith, most_end M n x0, most_climbs M n x x0 (omega arith)) in
+            let b = meets (moves M n x0) (moves N j y0) r here in
+            let both : said M n x0 ++ said M b.n (moves M n x0) ≡ said N j y0 ++ said N b.j (moves N j y0) = ap (λ l. l ++ said M b.n (moves M n x0)) e ∙ ap (λ l. said N j y0 ++ l) b.said in
+            let kept : R (moves M (n + b.n) x0) (moves N (j + b.j) y0) = subst (λ t. R t (moves N (j + b.j) y0)) (sym (moves_add M n b.n x0)) (subst (λ t. R (moves M b.n (moves M n x0)) t) (sym (moves_add N j b.j y0)) b.kept) in
+            reach k (n + b.n) (j + b.j) x (said_add M n b.n x0 ∙ both ∙ sym (said_add N j b.j y0)) kept (omega (arith, b.some)) below
+      ]
+
+  -- what each state shows of its own goes along
+  pub meets_go : {H K : Type 0} → (mate : H → K → Type 0) (shown : S → Option H) (shown_too : T → Option K) → ((x : S) (y : T) → R x y → SameEnd mate (shown x) (shown_too y)) → ((x : S) (e : H) → shown x ≡ Some e → IsSome (M.ended x)) → R x0 y0 → (n : ℕ) → most M n x0 < limit → (m : ℕ) × Begins (said M n x0) (said N m y0) × EndGoes mate (shown (moves M n x0)) (shown_too (moves N m y0))
+  meets_go mate shown shown_too looks only r n below =
+      let q = reach n 0 0 n refl r (omega arith) below in
+      let run = showing_is M shown only x0 in
+      let goes = run.grows n q.n2 q.above in (
+        q.j2,
+        (goes.0, goes.1 ∙ q.same),
+        λ e eq. same_goes mate (shown (moves M q.n2 x0)) (shown_too (moves N q.j2 y0)) (looks (moves M q.n2 x0) (moves N q.j2 y0) q.related) e (run.stays n q.n2 e q.above eq),
+      )
+
+-- Steps alone come to an end, and then a block follows. The relation before it need not be the one after it.
+module _ {S T E F G : Type 0} (M : Machine S E F) (N : Machine T E G) (Q R : S → T → Type 0) (size : S → ℕ) (each : (x : S) (y : T) → Q x y → Alone M Q size x y ⊎ Meets M N R x y) where
+  more : (x : S) (y : T) → Alone M Q size x y → Meets M N R (move M x).0 y → Meets M N R x y
   more x y a h =
       record {
         n = suc h.n;
@@ -214,30 +205,33 @@ module _ {S T E F G : Type 0} (s : ℕ) (M : Machine S E F) (N : Machine T E G) 
         kept = h.kept;
       }
 
-  pub falls_to_block : (each : (x : S) (y : T) → R x y → Alone x y ⊎ Meets x y) (k : ℕ) (x : S) (y : T) → size x < k → R x y → Meets x y
-  falls_to_block each zero x y lt r = absurd (omega arith)
-  falls_to_block each (suc k) x y lt r =
+  falls_to_block : (k : ℕ) (x : S) (y : T) → size x < k → Q x y → Meets M N R x y
+  falls_to_block zero x y lt r = absurd (omega arith)
+  falls_to_block (suc k) x y lt r =
       elim (each x y r) [
-        | inl a ↦ more x y a (falls_to_block each k (move M x).0 y (omega (arith, a.falls)) a.kept)
+        | inl a ↦ more x y a (falls_to_block k (move M x).0 y (omega (arith, a.falls)) a.kept)
         | inr m ↦ m
       ]
 
-  -- where the tops are not looked at and the steps have no bound
-  pub stutter_answers : (each : (x : S) (y : T) → R x y → Alone x y ⊎ Meets x y) → ((n : ℕ) (x : S) → most M n x ≤ s) → ((n : ℕ) (y : T) → most N n y ≤ s) → (x : S) (y : T) → R x y → Answers false s 0 M N R x y
-  stutter_answers each p q x y r =
-      let b = falls_to_block each (suc (size x)) x y (omega arith) r in
-      record {
-        n = b.n;
-        j = b.j;
-        some = b.some;
-        some_too = b.some_too;
-        short = λ h. cc;
-        short_too = λ h. cc;
-        peak = omega (arith, p b.n x);
-        peak_too = omega (arith, q b.j y);
-        said = b.said;
-        kept = b.kept;
-      }
+  pub stutter_meets : (x : S) (y : T) → Q x y → Meets M N R x y
+  stutter_meets x y q = falls_to_block (suc (size x)) x y (omega arith) q
+
+-- the same with bounds, where no top is above s and the steps have no bound
+pub stutter_answers : {S T E F G : Type 0} → (s : ℕ) (M : Machine S E F) (N : Machine T E G) (R : S → T → Type 0) (size : S → ℕ) → ((x : S) (y : T) → R x y → Alone M R size x y ⊎ Meets M N R x y) → ((n : ℕ) (x : S) → most M n x ≤ s) → ((n : ℕ) (y : T) → most N n y ≤ s) → (x : S) (y : T) → R x y → Answers false s 0 M N R x y
+stutter_answers s M N R size each p q x y r =
+    let b = stutter_meets M N R R size each x y r in
+    record {
+      n = b.n;
+      j = b.j;
+      some = b.some;
+      some_too = b.some_too;
+      short = λ h. cc;
+      short_too = λ h. cc;
+      peak = omega (arith, p b.n x);
+      peak_too = omega (arith, q b.j y);
+      said = b.said;
+      kept = b.kept;
+    }
 
 -- where no step raises the top by more than r, a block of n steps raises it by at most r * n
 pub rises_most : {S E F : Type 0} → (M : Machine S E F) (r : ℕ) → ((x : S) → M.top (move M x).0 ≤ M.top x + r) → (n : ℕ) (x : S) → most M n x ≤ M.top x + r * n

@@ -1,10 +1,10 @@
 -- What the laws on runs speak of.
-use Rattle.std.specs.Prelude.{◌≡◌, ℕ, ◌+◌, ◌*◌, ◌^◌, ◌≤◌, ◌<◌, ◌⊎◌, Bool, List, ◌++◌, Some, IsSome, IsTrue}
+use Rattle.std.specs.Prelude.{◌≡◌, ℕ, ◌+◌, ◌*◌, ◌^◌, ◌≤◌, ◌<◌, ◌⊎◌, Bool, List, [], ◌++◌, Some, IsSome, IsTrue}
 use Rattle.vg_base.specs.declared.event.Stream.{Stream}
 use Rattle.vg_base.specs.declared.event.VEnd.{VEnd}
 use Rattle.vg_base.specs.declared.event.CEnd.{CEnd}
 use Rattle.vg_base.specs.Run.{Run, IsRun, Limits, SameEnd, SameEndAs, Agrees}
-use Rattle.vg_base.specs.Machine.{Answers}
+use Rattle.vg_base.specs.Machine.{Machine, move, moves, said, run_from, Answers}
 use Rattle.vg_base.specs.Matched.{Matched}
 use Rattle.vg_base.specs.World.{Mates}
 use Rattle.vg_base.specs.Headline.{Said, Meaning, events, printed, Observed, observed, WithinLimits, Headline}
@@ -54,6 +54,35 @@ AgreeInPart cut = (l : Limits) (X : Run Said VEnd) (Y : Run Said CEnd) → Agree
 abbrev pub EndsAreMates : Observed VEnd → Observed CEnd → Type 0
 EndsAreMates V C = (n m : ℕ) (e : VEnd) (f : CEnd) → WithinLimits V n → V.ended n ≡ Some e → C.ended m ≡ Some f → Mates e f
 
+-- how far two runs may be apart that go in blocks of at most w steps
+abbrev pub limits : Bool → ℕ → ℕ → Limits
+limits bounded s w = record { bounded = bounded; s = s; a = w; b = 0; c = w; d = 0 }
+
+-- Two machines go in step from related states on, and so agree, if blocks of steps with bounds keep the relation.
+-- The relation is a test here, as a clause cannot speak of all relations.
+abbrev pub BlocksAgree : Type 0 → Type 0 → Type 0
+BlocksAgree S T =
+    (M : Machine S Said VEnd) (N : Machine T Said CEnd) (test : S → T → Bool) (bounded : Bool) (s w : ℕ)
+    → ((x : S) (y : T) → IsTrue (test x y) → SameEnd Mates (M.ended x) (N.ended y))
+    → ((x : S) (y : T) → IsTrue (test x y) → Answers bounded s w M N (λ x y. IsTrue (test x y)) x y)
+    → (x : S) (y : T) → IsTrue (test x y) → M.top x ≤ N.top y + s → N.top y ≤ M.top x + s
+    → Matched Mates (limits bounded s w) (run_from M x) (run_from N y) × Agrees Mates (limits bounded s w) (run_from M x) (run_from N y)
+
+-- A block of steps on either side that says the same and keeps the relation, however long it is and whatever is counted in it.
+pub record Meets {S T E F G : Type 0} (M : Machine S E F) (N : Machine T E G) (R : S → T → Type 0) (x : S) (y : T) : Type 0 where
+  pub n : ℕ
+  pub j : ℕ
+  pub some : 0 < n
+  pub some_too : 0 < j
+  pub said : said M n x ≡ said N j y
+  pub kept : R (moves M n x) (moves N j y)
+
+-- A step of the first machine that the other does not make: it says nothing, and a measure falls.
+pub record Alone {S T E F : Type 0} (M : Machine S E F) (R : S → T → Type 0) (size : S → ℕ) (x : S) (y : T) : Type 0 where
+  pub quiet : (move M x).1 ≡ []
+  pub falls : size (move M x).0 < size x
+  pub kept : R (move M x).0 y
+
 -- related states end in mates, and the same lives in both
 abbrev pub EndsMeet : {S T : Type 0} → Meaning S VEnd → Meaning T CEnd → (S → T → Type 0) → Type 0
 EndsMeet {S} {T} V C R =
@@ -61,15 +90,14 @@ EndsMeet {S} {T} V C R =
     → SameEnd Mates (V.machine.ended x) (C.machine.ended y) × (IsSome (V.machine.ended x) → V.live x ≡ C.live y)
 
 -- from related states on, if one of them is within the limits, blocks of steps lead to related states
-abbrev pub BlocksMeet : {S T : Type 0} → Bool → ℕ → ℕ → Meaning S VEnd → Meaning T CEnd → (S → T → Type 0) → Type 0
-BlocksMeet {S} {T} bounded s w V C R =
-    (x : S) (y : T) → R x y → (V.machine.top x < 2 ^ 63) ⊎ (C.machine.top y < 2 ^ 63) → Answers bounded s w V.machine C.machine R x y
+abbrev pub BlocksMeet : {S T : Type 0} → Meaning S VEnd → Meaning T CEnd → (S → T → Type 0) → Type 0
+BlocksMeet {S} {T} V C R =
+    (x : S) (y : T) → R x y → (V.machine.top x < 2 ^ 63) ⊎ (C.machine.top y < 2 ^ 63) → Meets V.machine C.machine R x y
 
 -- The headline holds from related states on, if such states end alike and blocks of steps keep the relation.
--- The relation is a test here, as a clause cannot speak of all relations.
+-- The relation is a test here too.
 abbrev pub BlocksGiveHeadline : Type 0 → Type 0 → Type 0
 BlocksGiveHeadline S T =
-    (V : Meaning S VEnd) (C : Meaning T CEnd) (test : S → T → Bool) (bounded : Bool) (s w : ℕ)
-    → EndsMeet V C (λ x y. IsTrue (test x y)) → BlocksMeet bounded s w V C (λ x y. IsTrue (test x y))
-    → (x : S) (y : T) → IsTrue (test x y) → V.machine.top x ≤ C.machine.top y + s → C.machine.top y ≤ V.machine.top x + s
-    → Headline (observed V x) (observed C y)
+    (V : Meaning S VEnd) (C : Meaning T CEnd) (test : S → T → Bool)
+    → EndsMeet V C (λ x y. IsTrue (test x y)) → BlocksMeet V C (λ x y. IsTrue (test x y))
+    → (x : S) (y : T) → IsTrue (test x y) → Headline (observed V x) (observed C y)

@@ -8,7 +8,7 @@ ghost use Rattle.vg_base.specs.declared.event.UndefKind.{UndefKind};
 ghost use Rattle.vg_base.specs.declared.event.UndefKind.TheVariants.{Freed};
 ghost use Rattle.vg_base.specs.declared.event.VEnd.{VEnd};
 ghost use Rattle.vg_base.specs.Headline.{Said, Meaning, Observed, observed, WithinLimits, Headline, events};
-ghost use Rattle.vg_base.specs.Laws.{MatchedRunsAgree, AgreementComposes, AgreeInPart, Parts, printed_by, EndStays, EndsAreMates, BlocksGiveHeadline};
+ghost use Rattle.vg_base.specs.Laws.{MatchedRunsAgree, AgreementComposes, AgreeInPart, Parts, printed_by, EndStays, EndsAreMates, BlocksAgree, BlocksGiveHeadline};
 ghost use Rattle.vg_base.specs.Machine.{Machine, run_from};
 ghost use Rattle.vg_base.specs.Run.{Run, IsRun, Limits, Agrees};
 ghost use Rattle.vg_base.specs.World.{Mates};
@@ -53,6 +53,11 @@ pub fn machines_run<S>()
 pub fn one_end<S, T>()
     ensures staying { (V : Observed VEnd) (C : Observed CEnd) → EndStays C → Headline V C → EndsAreMates V C }
     ensures meanings { (V : Meaning S VEnd) (C : Meaning T CEnd) (x : S) (y : T) → Headline (observed V x) (observed C y) → EndsAreMates (observed V x) (observed C y) }
+{}
+
+/// Machines go in step from related states on, and so agree, if blocks of steps keep the relation.
+pub fn blocks_agree<S, T>()
+    ensures { BlocksAgree S T }
 {}
 
 /// A relation of states that blocks of steps keep gives the headline. A block is owed only within the limits.

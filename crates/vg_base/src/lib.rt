@@ -11,8 +11,8 @@ pub use event::{
     UndefKind, VEnd,
 };
 pub use laws::{
-    agreement_composes, blocks_give_headline, machines_run, mates_are_unique, nothing_is_undefined,
-    one_end, prints_agree, runs_that_match_agree,
+    agreement_composes, blocks_agree, blocks_give_headline, machines_run, mates_are_unique,
+    nothing_is_undefined, one_end, prints_agree, runs_that_match_agree,
 };
 pub use outside::{Call, Folder, FolderFault, PutFault, Sink, SinkFault, put_all};
 pub use small::{Piece, Token};
