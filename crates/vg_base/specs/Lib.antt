@@ -6,3 +6,4 @@ pub mod Headline
 pub mod Outside
 pub mod Small
 pub mod Laws
+pub mod Scanner

@@ -1,5 +1,5 @@
 -- The small texts that the first path reads, Vala and C alike: their tokens, and a head, calls with one text each, and a tail.
-use Rattle.std.specs.Prelude.{◌≡◌, ℕ, Bool, true, false, not, ◌==◌, ◌&&◌, ◌||◌, nat_le, if◌then◌else◌, List, [], ◌∷◌, ◌++◌, map, Option, Some, None, IsTrue, codes}
+use Rattle.std.specs.Prelude.{◌≡◌, ℕ, Bool, false, not, ◌==◌, ◌&&◌, ◌||◌, nat_le, if◌then◌else◌, List, [], ◌∷◌, ◌++◌, Option, Some, None, IsTrue, codes}
 use Rattle.std.specs.List.{AllByRecursion, flat_map}
 use Rattle.vg_base.specs.World.{is_word_byte}
 use Rattle.vg_base.specs.declared.small.Token.{Token}
@@ -28,6 +28,14 @@ pub data Denotes : List ℕ → List ℕ → Type 0 where
   nothing : Denotes [] []
   plain : (b : ℕ) → {body bytes : List ℕ} → IsTrue (is_plain b) → Denotes body bytes → Denotes (b ∷ body) (b ∷ bytes)
   escape : (c b : ℕ) → {body bytes : List ℕ} → escape_of c ≡ Some b → Denotes body bytes → Denotes (92 ∷ c ∷ body) (b ∷ bytes)
+
+-- a byte as it is written between the quotes of a text
+abbrev pub spelled : ℕ → List ℕ
+spelled b = if b == 10 then 92 ∷ 110 ∷ [] else (if b == 34 || b == 92 then 92 ∷ b ∷ [] else b ∷ [])
+
+-- bytes as they are written between the quotes of a text
+abbrev pub spelling : List ℕ → List ℕ
+spelling bytes = flat_map spelled bytes
 
 -- a word: its bytes are letters, digits and `_`, and there is one at least
 abbrev pub IsWord : List ℕ → Type 0

@@ -1,11 +1,16 @@
 // The base of the compiler: what is observed of a run, how runs are compared, and the outside.
 #![tactic(auto)]
 
+mod calls;
 mod event;
 mod laws;
 mod outside;
+mod scanner;
 mod small;
+#[cfg(test)]
+mod small_tests;
 
+pub use calls::{includes, texts_between};
 pub use event::{
     Bytes, CEnd, Entry, Event, Fault, LiveRow, Memory, Span, Stream, ThingKind, TrapKind,
     UndefKind, VEnd,
@@ -15,4 +20,7 @@ pub use laws::{
     nothing_is_undefined, one_end, prints_agree, runs_that_match_agree,
 };
 pub use outside::{Call, Folder, FolderFault, PutFault, Sink, SinkFault, put_all};
-pub use small::{Piece, Token};
+pub use scanner::tokens;
+pub use small::{
+    Piece, Token, one_list_of_texts, one_list_of_tokens, push_spelling, spelled_texts,
+};
