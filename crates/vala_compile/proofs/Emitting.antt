@@ -8,9 +8,9 @@ use Rattle.vg_base.specs.declared.small.Token.TheVariants.{Word, Sign, Text, Inc
 use Rattle.vg_base.specs.Small.{Lexes, done, space, sign, word, quoted, include, Denotes, call, calls_between}
 use Rattle.c_reader.specs.Dialect.{opening, closing, CReads}
 use Rattle.vala_compile.specs.Program.{Program}
-use Rattle.vala_compile.specs.Stubs.{spelling}
+use Rattle.vg_base.specs.Small.{spelling}
 use Rattle.vala_compile.specs.Emission.{head, call_line, tail, c_text}
-use Rattle.vala_compile.proofs.LawStubs.{spelled_texts}
+use Rattle.vg_base.proofs.SpellingLemmas.{spelled_texts}
 use Rattle.vala_compile.proofs.Reading.{Denoted}
 
 tail_reads : Lexes tail closing

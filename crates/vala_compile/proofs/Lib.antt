@@ -1,4 +1,3 @@
-pub mod LawStubs
 pub mod Reading
 pub mod Emitting
 pub mod Simulation

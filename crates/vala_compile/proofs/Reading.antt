@@ -9,7 +9,8 @@ use Rattle.vg_base.specs.declared.small.Token.{Token}
 use Rattle.vg_base.specs.declared.small.Token.TheVariants.{Word, Sign, Text, Include}
 use Rattle.vg_base.specs.Small.{Lexes, done, space, sign, word, quoted, include, Denotes, call, calls_between}
 use Rattle.vala_compile.specs.Program.{Program, Reads, reads, opening, closing, most_bytes}
-use Rattle.vala_compile.proofs.LawStubs.{one_list_of_tokens, one_list_of_texts}
+use Rattle.vg_base.proofs.ScannerLemmas.{one_list_of_tokens}
+use Rattle.vg_base.proofs.CallLemmas.{one_list_of_texts}
 
 -- the tokens of a program
 abbrev pub tokens_of : Program → List Token

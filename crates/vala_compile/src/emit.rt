@@ -3,9 +3,8 @@
 ghost use Rattle.std.specs.Prelude.{◌≡◌, ◌++◌, IfOk, OnOk};
 ghost use Rattle.vala_compile.specs.Emission.{call_line, c_text};
 
-use crate::stub_calls::push_spelling;
 use std::alloc::Global;
-use vg_base::{Bytes, Memory};
+use vg_base::{Bytes, Memory, push_spelling};
 
 // What stands in front of the calls of `g_print`, and behind them.
 const HEAD: &str = "#include <glib.h>\n\nint\nmain (int argc, char **argv)\n{\n";

@@ -6,7 +6,6 @@ mod emit;
 mod laws;
 mod read;
 mod refusal;
-mod stub_calls;
 
 pub use compiler::{Emitted, compile};
 pub use laws::{breaks_are_determined, one_program};

@@ -3,9 +3,8 @@
 ghost use Rattle.std.specs.Prelude.{map, MatchOption, IfOk};
 ghost use Rattle.vala_compile.specs.Program.{Program, Reads};
 
-use crate::stub_calls::{texts_between, tokens};
 use std::alloc::Global;
-use vg_base::{Bytes, Memory, Piece};
+use vg_base::{Bytes, Memory, Piece, texts_between, tokens};
 
 // The most bytes that a file may have.
 const MOST_BYTES: usize = 1_048_576;

@@ -1,6 +1,6 @@
 use Rattle.std.proofs.Common.{ℕ}
 use Rattle.std.specs.Prelude.{codes}
-use Rattle.vala_compile.specs.Stubs.{spelling}
+use Rattle.vg_base.specs.Small.{spelling}
 use Rattle.vala_compile.proofs.Emitting.{pushed_three}
 use Rattle.vala_compile.proofs.emit.push_call.Goals as goal
 
