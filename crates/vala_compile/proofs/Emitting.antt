@@ -4,12 +4,11 @@ use Rattle.std.proofs.lemmas.List.{take_more, take_all, flat_map_more}
 use Rattle.std.specs.Prelude.{codes, OnOk, Result, Ok, Err}
 use Rattle.std.specs.List.{flat_map}
 use Rattle.vg_base.specs.declared.small.Token.{Token}
-use Rattle.vg_base.specs.declared.small.Token.TheVariants.{Word, Sign, Text, Include}
-use Rattle.vg_base.specs.Small.{Lexes, done, space, sign, word, quoted, include, Denotes, call, calls_between}
-use Rattle.c_reader.specs.Dialect.{opening, closing, CReads}
+use Rattle.vg_base.specs.Small.{Lexes, done, space, sign, word, quoted, include, Denotes, call}
+use Rattle.c_reader.specs.Dialect.{closing, CReads}
 use Rattle.vala_compile.specs.Program.{Program}
 use Rattle.vg_base.specs.Small.{spelling}
-use Rattle.vala_compile.specs.Emission.{head, call_line, tail, c_text}
+use Rattle.vala_compile.specs.Emission.{call_line, tail, c_text}
 use Rattle.vg_base.proofs.SpellingLemmas.{spelled_texts}
 use Rattle.vala_compile.proofs.Reading.{Denoted}
 

@@ -1,12 +1,11 @@
 -- The run of the C goes in step with the run of the program.
-use Rattle.std.proofs.Common.{◌≡◌, ℕ, ◌≤◌, ◌<◌, Bool, true, false, List, [], ◌∷◌, ◌++◌, map, Option, Some, None, pos, refl, arith}
-use Rattle.std.specs.Prelude.{IsSome}
+use Rattle.std.proofs.Common.{◌≡◌, true, [], ◌∷◌, ◌++◌, map, Some, None, pos, refl, arith}
 use Rattle.vg_base.specs.declared.event.VEnd.TheVariants as v
 use Rattle.vg_base.specs.declared.event.CEnd.TheVariants as c
 use Rattle.vg_base.specs.Run.{SameEnd}
-use Rattle.vg_base.specs.Machine.{Machine, Answers}
+use Rattle.vg_base.specs.Machine.{Answers}
 use Rattle.vg_base.specs.World.{World, Mates}
-use Rattle.vg_base.specs.Headline.{Meaning, observed, Headline}
+use Rattle.vg_base.specs.Headline.{Headline}
 use Rattle.c_reader.specs.CMeaning.{CState, c_opening, c_meaning, body, CRun}
 use Rattle.vala_compile.specs.Program.{Program}
 use Rattle.vala_compile.specs.VMeaning.{VState, Statement, Leave, v_opening, v_meaning, v_live, VRun}

@@ -1,5 +1,5 @@
 -- The C text of a program.
-use Rattle.std.specs.Prelude.{ℕ, List, [], ◌∷◌, ◌++◌, codes}
+use Rattle.std.specs.Prelude.{ℕ, List, ◌++◌, codes}
 use Rattle.std.specs.List.{flat_map}
 use Rattle.vg_base.specs.Small.{spelling}
 use Rattle.vala_compile.specs.Program.{Program}

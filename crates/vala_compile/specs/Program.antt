@@ -1,5 +1,5 @@
 -- The Vala that is read: which files are which program, and which rules they break.
-use Rattle.std.specs.Prelude.{◌≡◌, ℕ, ◌≤◌, Bool, List, [], ◌∷◌, length, codes}
+use Rattle.std.specs.Prelude.{ℕ, ◌≤◌, Bool, List, [], ◌∷◌, length, codes}
 use Rattle.vg_base.specs.declared.small.Token.{Token}
 use Rattle.vg_base.specs.declared.small.Token.TheVariants.{Word, Sign}
 use Rattle.vg_base.specs.Small.{Lexes, calls_between}

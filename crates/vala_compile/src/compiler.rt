@@ -58,7 +58,9 @@ mod tests {
     use std::test::Fail;
 
     const HI: &str = "void main () { print (\"hi\\n\"); }";
-    const HI_IN_C: &str = "#include <glib.h>\n\nint\nmain (int argc, char **argv)\n{\n  g_print (\"hi\\n\");\n  return 0;\n}\n";
+
+    const HI_IN_C: &str =
+        "#include <glib.h>\n\nint\nmain (int argc, char **argv)\n{\n  g_print (\"hi\\n\");\n  return 0;\n}\n";
 
     #[test]
     fn writes_the_c_of_a_program(rt: HostRuntime) -> Result<(), Fail> {
@@ -79,7 +81,12 @@ mod tests {
     #[test]
     fn refuses_what_is_no_program(rt: HostRuntime) -> Result<(), Fail> {
         let alloc = rt.alloc();
-        for source in ["class A {}", "", "void main () { print (\"50%\"); }", "void main () {"] {
+        for source in [
+            "class A {}",
+            "",
+            "void main () { print (\"50%\"); }",
+            "void main () {",
+        ] {
             let files = vec![in alloc; Vec::from_slice(alloc, source.as_bytes())?]?;
             assert!(rt; is_left_out(alloc, &files), "at {source}");
         }

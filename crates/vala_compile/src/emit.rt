@@ -8,6 +8,7 @@ use vg_base::{Bytes, Memory, push_spelling};
 
 // What stands in front of the calls of `g_print`, and behind them.
 const HEAD: &str = "#include <glib.h>\n\nint\nmain (int argc, char **argv)\n{\n";
+
 const TAIL: &str = "  return 0;\n}\n";
 
 fn push(out: &mut Vec<u8>, text: &str) -> Result<(), Memory>

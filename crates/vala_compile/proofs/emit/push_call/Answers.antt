@@ -1,4 +1,3 @@
-use Rattle.std.proofs.Common.{ℕ}
 use Rattle.std.specs.Prelude.{codes}
 use Rattle.vg_base.specs.Small.{spelling}
 use Rattle.vala_compile.proofs.Emitting.{pushed_three}
