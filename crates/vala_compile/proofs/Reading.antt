@@ -20,6 +20,7 @@ tokens_of program = calls_between opening (codes "print") closing program
 pub reads_one : (bytes : List ℕ) (p : Program) → Reads (bytes ∷ []) p → (length bytes ≤ most_bytes) × Lexes bytes (tokens_of p)
 reads_one _ _ (reads bytes p small lexes) = (small, lexes)
 
+-- Files are at most one program.
 pub one_program : (files : List (List ℕ)) (p q : Program) → Reads files p → Reads files q → p ≡ q
 one_program _ p q (reads bytes _ small lexes) r =
     one_list_of_texts opening closing (codes "print") p q tt (one_list_of_tokens bytes (tokens_of p) (tokens_of q) lexes (reads_one bytes q r).1)
@@ -36,10 +37,12 @@ reads_found bytes ts None small lexes none =
     λ p r. none p (one_list_of_tokens bytes ts (tokens_of p) lexes (reads_one bytes p r).1)
 reads_found bytes ts (Some p) small lexes e = reads bytes p.items small (subst (Lexes bytes) e lexes)
 
+-- the same of an answer that may be want of memory
 reads_answer : (bytes : List ℕ) (ts : List Token) (answer : Result (Option (Vec (List ℕ) Global)) Memory) → length bytes ≤ most_bytes → Lexes bytes ts → IfOk answer (λ found. MatchOption found ((p : Program) → ts ≡ tokens_of p → ⊥) (λ p. ts ≡ tokens_of p.items)) → IfOk answer (λ found. MatchOption found ((p : Program) → Reads (bytes ∷ []) p → ⊥) (λ p. Reads (bytes ∷ []) p.items))
 reads_answer bytes ts (Ok found) small lexes h = reads_found bytes ts found small lexes h
 reads_answer bytes ts (Err e) small lexes h = tt
 
+-- the tokens that were found
 lexed : (bytes : List ℕ) (tokens : Option (Vec Token Global)) (found : Vec Token Global) → tokens ≡ Some found → MatchOption tokens ((ts : List Token) → Lexes bytes ts → ⊥) (λ ts. Lexes bytes ts.items) → Lexes bytes found.items
 lexed bytes None found is h = cc
 lexed bytes (Some v) found is h =
@@ -67,6 +70,7 @@ TextsDenoted (Word w ∷ ts) = TextsDenoted ts
 TextsDenoted (Sign b ∷ ts) = TextsDenoted ts
 TextsDenoted (Include ∷ ts) = TextsDenoted ts
 
+-- the texts of a text that has tokens
 lexed_denoted : (bytes : List ℕ) (ts : List Token) → Lexes bytes ts → TextsDenoted ts
 lexed_denoted _ _ done = tt
 lexed_denoted _ _ (space b _ l) = lexed_denoted _ _ l
@@ -75,10 +79,12 @@ lexed_denoted _ _ (word w _ _ l) = lexed_denoted _ _ l
 lexed_denoted _ _ (quoted body d l) = ((body, d), lexed_denoted _ _ l)
 lexed_denoted _ _ (include l) = lexed_denoted _ _ l
 
+-- the texts of calls
 calls_denoted : (name : List ℕ) (tail : List Token) (p : Program) → TextsDenoted (flat_map (call name) p ++ tail) → Denoted p
 calls_denoted name tail [] h = tt
 calls_denoted name tail (text ∷ texts) h = (h.0, calls_denoted name tail texts h.1)
 
+-- Each text of a program that is read is denoted by something.
 pub program_denoted : (files : List (List ℕ)) (p : Program) → Reads files p → Denoted p
 program_denoted _ _ (reads bytes p small lexes) =
     calls_denoted (codes "print") closing p (lexed_denoted bytes (tokens_of p) lexes)

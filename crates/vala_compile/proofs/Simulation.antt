@@ -20,6 +20,7 @@ v_inside rest =
 abbrev c_inside : Program → CState
 c_inside rest = record { frames = body rest ∷ []; ended = None }
 
+-- both at their end
 abbrev v_over : VState
 v_over = record { things = []; places = []; values = []; work = []; ended = Some (v.Ended (pos 0)) }
 
@@ -32,11 +33,13 @@ data Together (program : Program) : VState → CState → Type 0 where
   inside : (rest : Program) → Together program (v_inside rest) (c_inside rest)
   over : Together program v_over c_over
 
+-- Their ends are mates.
 ends : (program : Program) (x : VState) (y : CState) → Together program x y → SameEnd Mates x.ended y.ended
 ends program _ _ before = tt
 ends program _ _ (inside rest) = tt
 ends program _ _ over = refl
 
+-- Nothing ever lives.
 lives : (program : Program) (x : VState) (y : CState) → Together program x y → v_live x ≡ []
 lives program _ _ before = refl
 lives program _ _ (inside rest) = refl
@@ -53,6 +56,7 @@ answers program _ _ (inside (text ∷ rest)) =
 answers program _ _ over =
     record { n = 1; j = 1; some = omega arith; some_too = omega arith; short = λ _. omega arith; short_too = λ _. omega arith; peak = omega arith; peak_too = omega arith; said = refl; kept = over }
 
+-- In every world the two runs agree.
 pub headline : (program : Program) (w : World) → Headline (VRun program w) (CRun program w)
 headline program w =
     answers_headline v_meaning (c_meaning program) (Together program) (ends program) (λ x y r _. lives program x y r) 0 3 true (answers program) (v_opening program) c_opening before (omega arith) (omega arith)

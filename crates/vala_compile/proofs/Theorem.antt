@@ -24,12 +24,14 @@ is_compiled files strict p c r e =
       same = λ w _. headline p w;
     }
 
+-- the same of what the code holds in its hands
 pub compiled : (files : List (List ℕ)) (strict : Bool) (found : Option (Vec (List ℕ) Global)) (program : Vec (List ℕ) Global) (p : Program) (c : List ℕ) → found ≡ Some program → MatchOption found ((p : Program) → Reads files p → ⊥) (λ p. Reads files p.items) → p ≡ program.items → c ≡ c_text p → IsCompiled files strict c
 compiled files strict None program p c is h same e = cc
 compiled files strict (Some found) program p c is h same e =
     let here : found ≡ program = cc in
     is_compiled files strict found.items c h (e ∙ ap c_text (same ∙ ap (λ v. v.items) (sym here)))
 
+-- files in which no program was found
 pub refused : (files : List (List ℕ)) (strict : Bool) (found : Option (Vec (List ℕ) Global)) → found ≡ None → MatchOption found ((p : Program) → Reads files p → ⊥) (λ p. Reads files p.items) → (rest : List Refusal) × Breaks files strict (left_out ∷ rest)
 refused files strict None is h = ([], outside h)
 refused files strict (Some found) is h = cc
