@@ -1,5 +1,5 @@
 -- The name of a program, and that it is one.
-use Rattle.std.proofs.Common.{◌≡◌, ℕ, suc, ◌+◌, ◌≤◌, min, Bool, true, false, cond, ◌||◌, ◌==◌, List, [], ◌∷◌, ◌++◌, map, take, length, refl, sym, ap, ◌∙◌, subst, arith, IsTrue}
+use Rattle.std.proofs.Common.{◌≡◌, ℕ, zero, suc, ◌+◌, ◌≤◌, min, Bool, true, false, cond, ◌||◌, ◌==◌, List, [], ◌∷◌, ◌++◌, map, take, length, refl, sym, ap, ◌∙◌, subst, arith, IsTrue}
 use Rattle.std.specs.List.{AllByRecursion}
 use Rattle.std.proofs.lemmas.List.{take-map, length-take}
 use Rattle.vg_base.specs.World.{is_letter, is_digit, is_word_byte, IsName}
@@ -44,8 +44,8 @@ all_named [] = tt
 all_named (b ∷ bs) = (name_byte_is b, all_named bs)
 
 all_taken : (n : ℕ) (bs : List ℕ) → AllByRecursion IsWordByte bs → AllByRecursion IsWordByte (take n bs)
-all_taken n [] h = tt
-all_taken zero (b ∷ bs) h = tt
+all_taken zero bs h = tt
+all_taken (suc n) [] h = tt
 all_taken (suc n) (b ∷ bs) h = (h.0, all_taken n bs h.1)
 
 short : (bs : List ℕ) → length (take 99 bs) ≤ 99

@@ -1,0 +1,4 @@
+pub mod Reading
+pub mod Emitting
+pub mod Simulation
+pub mod Theorem

@@ -1,11 +1,15 @@
 -- THE THEOREM: what it says of the C that a program is compiled to.
-use Rattle.std.specs.Prelude.{ℕ, Bool, List, [], ◌∷◌}
+use Rattle.std.specs.Prelude.{ℕ, Bool, List, [], ◌∷◌, Result, Ok, Err}
+use Rattle.vg_base.specs.declared.event.Fault.{Fault}
+use Rattle.vg_base.specs.declared.event.Fault.TheVariants.{Refused, Memory}
 use Rattle.vg_base.specs.World.{World, IsWorld}
 use Rattle.vg_base.specs.Headline.{Headline}
 use Rattle.c_reader.specs.Dialect.{Texts, CReads}
 use Rattle.c_reader.specs.CMeaning.{CRun}
 use Rattle.vala_compile.specs.Program.{Program, Reads, Breaks}
 use Rattle.vala_compile.specs.VMeaning.{VRun}
+use Rattle.vala_compile.specs.declared.refusal.Refusal.{Refusal}
+use Rattle.vala_compile.specs.declared.compiler.Emitted.{Emitted}
 
 -- The files break no rule and are a program; the bytes `c` are a unit of C; and in every world the run of that unit is the run of
 -- that program: the same trace up to every bound, mated ends, and the same things with as many counts as owners.
@@ -16,3 +20,9 @@ pub record IsCompiled (files : List (List ℕ)) (strict : Bool) (c : List ℕ) :
   pub unit : Texts
   pub is_unit : CReads c unit
   pub same : (w : World) → IsWorld w → Headline (VRun program w) (CRun unit w)
+
+-- what `compile` answers: a program's C, or the first rule that the files break; want of memory is tied to no cause
+abbrev pub Compiles : List (List ℕ) → Bool → Result Emitted (Fault Refusal) → Type 0
+Compiles files strict (Ok e) = IsCompiled files strict e.c.items
+Compiles files strict (Err (Refused r)) = (rest : List Refusal) × Breaks files strict (r ∷ rest)
+Compiles files strict (Err Memory) = Unit {0}

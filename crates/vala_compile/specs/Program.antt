@@ -1,9 +1,8 @@
 -- The Vala that is read: which files are which program, and which rules they break.
-use Rattle.std.specs.Prelude.{◌≡◌, ℕ, ◌≤◌, Bool, List, [], ◌∷◌, length, codes}
+use Rattle.std.specs.Prelude.{ℕ, ◌≤◌, Bool, List, [], ◌∷◌, length, codes}
 use Rattle.vg_base.specs.declared.small.Token.{Token}
 use Rattle.vg_base.specs.declared.small.Token.TheVariants.{Word, Sign}
 use Rattle.vg_base.specs.Small.{Lexes, calls_between}
-use Rattle.vala_compile.specs.declared.refusal.Rule.{Rule}
 use Rattle.vala_compile.specs.declared.refusal.Rule.TheVariants.{U1}
 use Rattle.vala_compile.specs.declared.refusal.Refusal.{Refusal}
 
@@ -35,10 +34,3 @@ left_out = record { rule = U1; phase = 7; span = record { file = 0; start = 0; e
 pub data Breaks (files : List (List ℕ)) (strict : Bool) : List Refusal → Type 0 where
   none : (program : Program) → Reads files program → Breaks files strict []
   outside : ((program : Program) → Reads files program → ⊥) → Breaks files strict (left_out ∷ [])
-
--- the rules as they are printed: name and text
-abbrev pub rule_name : Rule → List ℕ
-rule_name U1 = codes "U1"
-
-abbrev pub rule_text : Rule → List ℕ
-rule_text U1 = codes "not in this profile"

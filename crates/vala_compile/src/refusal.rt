@@ -1,7 +1,7 @@
 // Why a program is refused.
 
 ghost use Rattle.std.specs.Prelude.{◌≡◌};
-ghost use Rattle.vala_compile.specs.Program.{rule_name as name_of_rule, rule_text as text_of_rule};
+ghost use Rattle.vala_compile.specs.Rules.{printed_of};
 
 use vg_base::Span;
 
@@ -22,7 +22,7 @@ pub struct Refusal {
 
 /// The name of a rule.
 pub fn rule_name(rule: Rule) -> &'static str
-    ensures { result.now ≡ name_of_rule rule }
+    ensures { result.now ≡ (printed_of rule).name }
 {
     match rule {
         Rule::U1 => "U1",
@@ -31,7 +31,7 @@ pub fn rule_name(rule: Rule) -> &'static str
 
 /// What a rule says.
 pub fn rule_text(rule: Rule) -> &'static str
-    ensures { result.now ≡ text_of_rule rule }
+    ensures { result.now ≡ (printed_of rule).text }
 {
     match rule {
         Rule::U1 => "not in this profile",

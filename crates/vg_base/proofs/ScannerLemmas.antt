@@ -214,24 +214,34 @@ end_inside t bs ended us r = record {
   tokens = in_front ended (token.Text t) r.0 us r.1 ∙ ap (λ x. ended ++ token.Text x ∷ r.0) (sym (append-nil t));
 }
 
+-- behind a `\` stands what it escapes
+at_escape : (t : List ℕ) (b : ℕ) (bs : List ℕ) (ended us : List Token) → b ≡ 92 → Meant (mode.Escape t) bs ended us → Inside t (b ∷ bs) ended us
+at_escape t b bs ended us e r =
+    let bytes : 92 ∷ r.0 ∷ r.2 ≡ b ∷ bs = cc (r.3, e) in
+    subst (λ x. Inside t x ended us) {x = 92 ∷ r.0 ∷ r.2} bytes (escape_inside t r.0 r.1 r.2 ended us r.4 r.5)
+
+at_end : (t : List ℕ) (b : ℕ) (bs : List ℕ) (ended us : List Token) → b ≡ 34 → Meant mode.Between bs (ended ++ token.Text t ∷ []) us → Inside t (b ∷ bs) ended us
+at_end t b bs ended us e r = subst (λ x. Inside t (x ∷ bs) ended us) (sym e) (end_inside t bs ended us r)
+
+-- a byte in a text that does not stand for itself
+special_sound : (t : List ℕ) (b : ℕ) (bs : List ℕ) (ended us : List Token) → SoundAt bs
+    → go_on bs (cond (b == 92) (Some (mode.Escape t, ended)) (cond (b == 34) (Some (mode.Between, ended ++ token.Text t ∷ [])) None)) ≡ Some us → Inside t (b ∷ bs) ended us
+special_sound t b bs ended us later e =
+    by_test (b == 92)
+    (λ h. let goes_on : scan bs (mode.Escape t) ended ≡ Some us = rw h at e in
+    at_escape t b bs ended us (eqb-true b 92 h) (later (mode.Escape t) ended us goes_on))
+    (λ h. let ends : go_on bs (cond (b == 34) (Some (mode.Between, ended ++ token.Text t ∷ [])) None) ≡ Some us = rw h at e in
+    by_test (b == 34)
+    (λ k. let goes_on : scan bs mode.Between (ended ++ token.Text t ∷ []) ≡ Some us = rw k at ends in
+    at_end t b bs ended us (eqb-true b 34 k) (later mode.Between (ended ++ token.Text t ∷ []) us goes_on))
+    (λ k. let none : None ≡ Some us = rw k at ends in cc))
+
 text_sound : (t : List ℕ) (b : ℕ) (bs : List ℕ) (ended us : List Token) → SoundAt bs → scan (b ∷ bs) (mode.Text t) ended ≡ Some us → Inside t (b ∷ bs) ended us
 text_sound t b bs ended us later e =
     by_test (is_plain b)
     (λ h. let goes_on : scan bs (mode.Text (t ++ b ∷ [])) ended ≡ Some us = rw h at e in
     plain_inside t b bs ended us h (later (mode.Text (t ++ b ∷ [])) ended us goes_on))
-    (λ h. let F : Next → Option (List Token) = go_on bs in
-    let special : F (cond (b == 92) (Some (mode.Escape t, ended)) (cond (b == 34) (Some (mode.Between, ended ++ token.Text t ∷ [])) None)) ≡ Some us = rw h at e in
-    by_test (b == 92)
-    (λ at_escape. let goes_on : scan bs (mode.Escape t) ended ≡ Some us = rw at_escape at special in
-    let r : Meant (mode.Escape t) bs ended us = later (mode.Escape t) ended us goes_on in
-    let bytes : 92 ∷ r.0 ∷ r.2 ≡ b ∷ bs = cc (r.3, eqb-true b 92 at_escape) in
-    subst (λ x. Inside t x ended us) bytes (escape_inside t r.0 r.1 r.2 ended us r.4 r.5))
-    (λ no_escape. let ends : F (cond (b == 34) (Some (mode.Between, ended ++ token.Text t ∷ [])) None) ≡ Some us = rw no_escape at special in
-    by_test (b == 34)
-    (λ at_end. let goes_on : scan bs mode.Between (ended ++ token.Text t ∷ []) ≡ Some us = rw at_end at ends in
-    let bytes : 34 ∷ bs ≡ b ∷ bs = cc (eqb-true b 34 at_end) in
-    subst (λ x. Inside t x ended us) bytes (end_inside t bs ended us (later mode.Between (ended ++ token.Text t ∷ []) us goes_on)))
-    (λ no_end. let refused : F None ≡ Some us = rw no_end at ends in cc)))
+    (λ h. special_sound t b bs ended us later (rw h at e))
 
 escape_sound : (t : List ℕ) (c : ℕ) (bs : List ℕ) (ended us : List Token) (o : Option ℕ) → escape_of c ≡ o → SoundAt bs
     → go_on bs (option_map (λ b. (mode.Text (t ++ b ∷ []), ended)) o) ≡ Some us → Meant (mode.Escape t) (c ∷ bs) ended us

@@ -1,4 +1,4 @@
--- The tokens of a small text, byte by byte.
+-- The tokens of a small text, byte by byte: the function on lists that the reader computes. What the tokens of a text are says `Lexes`.
 use Rattle.std.specs.Prelude.{ℕ, ◌+◌, Bool, false, ◌==◌, if◌then◌else◌, List, [], ◌∷◌, ◌++◌, Option, Some, None, slice_get, option_and_then, nat_lt, length}
 use Rattle.std.specs.Option.{option_map}
 use Rattle.vg_base.specs.World.{is_word_byte}
@@ -18,6 +18,7 @@ start_of b = if is_word_byte b then start.Word else (if is_space b then start.Sp
 abbrev pub Next : Type 0
 Next = Option (Mode × List Token)
 
+-- one byte between tokens
 abbrev pub begin_as : Start → ℕ → List Token → Next
 begin_as start.Word b ended = Some (mode.Word (b ∷ []), ended)
 begin_as start.Space b ended = Some (mode.Between, ended)
@@ -29,12 +30,15 @@ begin_as start.Other b ended = None
 abbrev pub begin : ℕ → List Token → Next
 begin b ended = begin_as (start_of b) b ended
 
+-- one byte in a word
 abbrev pub in_word : List ℕ → ℕ → List Token → Next
 in_word w b ended = if is_word_byte b then Some (mode.Word (w ++ b ∷ []), ended) else begin b (ended ++ token.Word w ∷ [])
 
+-- one byte in a text
 abbrev pub in_text : List ℕ → ℕ → List Token → Next
 in_text t b ended = if is_plain b then Some (mode.Text (t ++ b ∷ []), ended) else (if b == 92 then Some (mode.Escape t, ended) else (if b == 34 then Some (mode.Between, ended ++ token.Text t ∷ []) else None))
 
+-- one byte behind a `\` in a text
 abbrev pub in_escape : List ℕ → ℕ → List Token → Next
 in_escape t b ended = option_map (λ c. (mode.Text (t ++ c ∷ []), ended)) (escape_of b)
 
@@ -43,9 +47,11 @@ abbrev pub has_byte : Option ℕ → ℕ → Bool
 has_byte None b = false
 has_byte (Some c) b = c == b
 
+-- one byte in an include line
 abbrev pub in_include : ℕ → ℕ → List Token → Next
 in_include n b ended = if has_byte (slice_get include_line n) b then (if nat_lt (n + 1) (length include_line) then Some (mode.Include (n + 1), ended) else Some (mode.Between, ended ++ token.Include ∷ [])) else None
 
+-- one byte in any mode
 abbrev pub step : Mode → ℕ → List Token → Next
 step mode.Between b ended = begin b ended
 step (mode.Word w) b ended = in_word w b ended

@@ -1,4 +1,4 @@
-// The tokens of a small text, byte by byte.
+// The tokens of a small text, byte by byte. A mode says what is open, so that each byte is read once.
 
 ghost use Rattle.std.specs.Prelude.{◌≡◌, ◌++◌, ◌∷◌, ℕ, List, [], IfOk, OnOk, MatchOption, option_map};
 ghost use Rattle.vg_base.specs.World.{is_word_byte};
@@ -23,9 +23,10 @@ enum Start {
     Other,
 }
 
-/// What a token's bytes so far say of the next byte.
+/// What is open between two bytes.
 #[derive(Drop)]
 enum Mode {
+    /// No token is open.
     Between,
     /// In a word, with its bytes so far.
     Word(Bytes),
@@ -117,6 +118,7 @@ fn no_bytes(alloc: Global) -> Bytes
     }
 }
 
+// A byte that stands between tokens.
 fn begin(alloc: Global, byte: u8, tokens: &mut Vec<Token>) -> Result<Option<Mode>, Memory>
     ensures { IfOk result (λ next. spec.scanned next tokens.new.items ≡ spec.begin byte tokens.old.items) }
 {

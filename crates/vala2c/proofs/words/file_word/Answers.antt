@@ -1,4 +1,19 @@
+use Rattle.std.proofs.Common.{◌≡◌, ◌∙◌, ap, sym, ◌<◌, ◌≤◌, ℕ, zero, suc, List, [], ◌∷◌, length, get_or, map, arith, codes}
+use Rattle.std.specs.String.{string_bytes}
+use Rattle.std.proofs.lemmas.Slice.Eq.{slice_eq-Decides}
+use Rattle.std.proofs.lemmas.Bool.Decides.{Decides-eqb}
 use Rattle.vala2c.proofs.words.file_word.Goals as goal
 
+-- a list of two
+two : {A : Type 0} (xs : List A) (a b : A) → 2 ≤ length xs → length xs < 3 → a ≡ get_or xs 0 a → b ≡ get_or xs 1 b → xs ≡ a ∷ b ∷ []
+two [] a b least below e f = absurd (omega arith)
+two (x ∷ []) a b least below e f = absurd (omega arith)
+two (x ∷ y ∷ []) a b least below e f = cc
+two (x ∷ y ∷ z ∷ xs) a b least below e f = absurd (omega arith)
+
 pub returns-then-is_plain : goal.returns-then-is_plain
-returns-then-is_plain c = let e = c.if-eq.true in let f = c.eq.ensures in let p = c.if-is_plain.true in let q = c.is_plain.ensures in let i = c.command-item.is in let n = c.in-len2 in ?
+returns-then-is_plain c =
+    let is_run = (slice_eq-Decides Decides-eqb _ _ _ c.eq.ensures).0 c.if-eq.true in
+    let words = two c.args.words.now c.command-item.result c.file-item.result c.in-len2.len_at_least c.in-len2.len_below c.command-item.is c.file-item.is in
+    let plain = c.is_plain.ensures.0 c.if-is_plain.true in
+    ?
