@@ -1,5 +1,5 @@
 -- Laws of any machine: more steps, steps at an end, and how many are made.
-use Rattle.std.proofs.Common.{◌≡◌, ℕ, zero, suc, ◌+◌, ◌-◌, ◌≤◌, ◌<◌, List, [], ◌∷◌, ◌++◌, Option, Some, None, refl, sym, ap, ◌∙◌, arith, append_assoc, append-nil}
+use Rattle.std.proofs.Common.{◌≡◌, ℕ, zero, suc, ◌+◌, ◌-◌, ◌≤◌, [], ◌++◌, Option, Some, None, refl, sym, ap, ◌∙◌, arith, append_assoc}
 use Rattle.vg_base.specs.Machine.{Machine, unless_ended, move, moves, said}
 use Rattle.c_machine.specs.Kept.{made_unless, steps_made}
 
@@ -69,3 +69,12 @@ made_all M (suc n) s h =
     let rest : steps_made M n (move M s).0 ≡ n = made_all M n (move M s).0 h in
     let a : steps_made M (suc n) s ≡ steps_made M n (move M s).0 + 1 = ap (λ o. made_unless o (steps_made M n (move M s).0)) first in
     omega (arith, a, rest)
+
+-- no more steps are made than were asked for
+pub made_bound : {S E F : Type 0} → (M : Machine S E F) (n : ℕ) (s : S) → steps_made M n s ≤ n
+made_bound M zero s = omega arith
+made_bound {F = F} M (suc n) s = at (M.ended s) (made_bound M n (move M s).0)
+  where
+    at : (o : Option F) → steps_made M n (move M s).0 ≤ n → made_unless o (steps_made M n (move M s).0) ≤ suc n
+    at None h = omega arith
+    at (Some x) h = omega arith

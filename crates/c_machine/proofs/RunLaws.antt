@@ -1,5 +1,5 @@
 -- What the sinks took after some steps, and what one more step adds.
-use Rattle.std.proofs.Common.{◌≡◌, ℕ, zero, suc, ◌+◌, ◌-◌, ◌≤◌, ◌<◌, List, [], ◌∷◌, ◌++◌, length, take, drop, subst, Option, Some, None, Result, Ok, Err, refl, sym, ap, ◌∙◌, arith, append_assoc, append-nil}
+use Rattle.std.proofs.Common.{◌≡◌, ℕ, ◌+◌, ◌-◌, ◌≤◌, ◌<◌, List, [], ◌∷◌, ◌++◌, length, take, drop, subst, Option, Some, None, Ok, Err, refl, sym, ap, ◌∙◌, arith, append_assoc, append-nil}
 use Rattle.std.specs.Option.{option_map}
 use Rattle.std.proofs.lemmas.List.{take-append-drop}
 use Rattle.vg_base.specs.declared.event.Event.{Event}
@@ -19,9 +19,9 @@ use Rattle.c_machine.specs.declared.run.RunFault.{RunFault}
 use Rattle.c_machine.specs.declared.run.RunFault.TheVariants as fault
 use Rattle.c_machine.specs.Progress.{Point, state_of, Within, after, text_of, says, counted, moved, point_of}
 use Rattle.c_machine.specs.Kept.{machine_of, made_unless, steps_made}
-use Rattle.c_machine.specs.Runs.{Sinks, sink, other, prints, TookFront, PutsNext, Finished, Refused, RunsSteps, TookFronts}
+use Rattle.c_machine.specs.Runs.{Sinks, sink, prints, TookFront, PutsNext, Finished, Refused, RunsSteps, TookFronts}
 use Rattle.c_machine.proofs.StepLaws.{step_law, text_no_end, no_end, counted_once}
-use Rattle.c_machine.proofs.MachineLaws.{moves_add, said_add, made_add, moves_end, said_end, made_end, none_before, made_all}
+use Rattle.c_machine.proofs.MachineLaws.{moves_add, said_add, made_add, moves_end, said_end, made_end, none_before, made_bound}
 
 -- one front after another
 
@@ -122,6 +122,7 @@ puts_text t old out f e = record { took = λ p. text p; faults = λ p. more p }
     text : (p : Stream) → Takes (sink p old) (print_of p (says (Some t))) (sink p (record old { out = out }))
     text to.Out = subst (λ l. Takes old.out l out) (sym (append-nil t)) e
     text to.Err = takes_none old.err
+
     more : (p : Stream) → (sink p old).faults ≤ (sink p (record old { out = out })).faults
     more to.Out = f
     more to.Err = omega arith
@@ -182,10 +183,15 @@ all_at_end unit start i steps before now after e far ended h =
 -- the fronts
 
 pub fronts_finished : (unit : Texts) (start : Point) (steps : ℕ) (before : Sinks) (now : Point) (after : Sinks) → Finished unit start steps before now after → TookFronts unit start.state steps before after
-fronts_finished unit start steps before now after f = λ p. record { front = prints unit steps start.state p; begins = begins_same (prints unit steps start.state p); took = f.took p }
+fronts_finished unit start steps before now after f = λ p. record { front = prints unit steps start.state p; begins = begins_same (prints unit steps start.state p); took = f.took p; faults = f.faults p }
 
-pub front_of_text : (old : SinkView) (t : List ℕ) (taken : ℕ) (new : SinkView) → Takes old (take taken t) new → TookFront old t new
-front_of_text old t taken new e = record { front = take taken t; begins = begins_take taken t; took = e }
+-- what a call that finished answers for
+pub runs_finished : (unit : Texts) (start : Point) (steps : ℕ) (before : Sinks) (now : Point) (after : Sinks) (u : Unit {0}) → Finished unit start steps before now after → RunsSteps unit start steps before (Ok u) now after
+runs_finished unit start steps before now after u f =
+    record { by_answer = f; fronts = fronts_finished unit start steps before now after f; bound = omega (arith, f.done, made_bound (machine_of unit) steps start.state) }
+
+pub front_of_text : (old : SinkView) (t : List ℕ) (taken : ℕ) (new : SinkView) → old.faults ≤ new.faults → Takes old (take taken t) new → TookFront old t new
+front_of_text old t taken new f e = record { front = take taken t; begins = begins_take taken t; took = e; faults = f }
 
 -- a front of the last print was taken
 pub fronts_cut : (unit : Texts) (start : Point) (i steps : ℕ) (before : Sinks) (now : Point) (mid : Sinks) (next : CState) (t : List ℕ) (out : SinkView) → SoFar unit start i before now mid → i < steps → move (machine_of unit) now.state ≡ (next, says (Some t)) → TookFront mid.out t out → TookFronts unit start.state steps before (record mid { out = out })
@@ -194,16 +200,18 @@ fronts_cut unit start i steps before now mid next t out far h m cut to.Out =
     record {
       front = prints unit i start.state to.Out ++ cut.front;
       begins =
-        begins_through (prints unit i start.state to.Out ++ cut.front) (prints unit (i + 1) start.state to.Out) (prints unit steps start.state to.Out)
+          begins_through (prints unit i start.state to.Out ++ cut.front) (prints unit (i + 1) start.state to.Out) (prints unit steps start.state to.Out)
           (subst (λ l. Begins (prints unit i start.state to.Out ++ cut.front) l) (sym (next_prints unit i start.state now.state next (says (Some t)) to.Out f.state m ∙ ap (λ l. prints unit i start.state to.Out ++ l) (append-nil t))) (begins_after (prints unit i start.state to.Out) cut.front t cut.begins))
           (prints_grow unit (i + 1) steps start.state to.Out (omega arith));
       took = takes_both before.out mid.out out (prints unit i start.state to.Out) cut.front (f.took to.Out) cut.took;
+      faults = omega (arith, f.faults to.Out, cut.faults);
     }
 fronts_cut unit start i steps before now mid next t out far h m cut to.Err =
     record {
       front = prints unit i start.state to.Err;
       begins = prints_grow unit i steps start.state to.Err (omega arith);
       took = far.finished.took to.Err;
+      faults = far.finished.faults to.Err;
     }
 
 -- a print was refused
@@ -242,6 +250,10 @@ one_more_there unit first p q i before mid u out far w h e puts =
     go (Some t) r = puts_text t mid out r.0 r.1
     go None r = subst (λ v. Puts None mid (record mid { out = v })) (sym r) (puts_none mid)
 
+pub stopped_bound : (unit : Texts) (first p q : Place) (i steps : ℕ) (before mid : Sinks) → SoFar unit (point_of unit first) i before (point_of unit p) mid → i < steps → ((e : CEnd) → p.at ≡ Ended e → ⊥) → q ≡ moved (length unit) p → q.done ≤ first.done + steps
+stopped_bound unit first p q i steps before mid far l h e =
+    omega (arith, far.finished.done, far.made, place_done p q (length unit) h e)
+
 pub stopped_there : (unit : Texts) (first p q : Place) (i steps : ℕ) (before mid : Sinks) (f : RunFault) (out : SinkView) → SoFar unit (point_of unit first) i before (point_of unit p) mid → i < steps → Within (length unit) p.at → ((e : CEnd) → p.at ≡ Ended e → ⊥) → q ≡ moved (length unit) p → PutsNext mid.out (text_of unit p.at) (Err f) out → RunsSteps unit (point_of unit first) steps before (Err f) (point_of unit q) (record mid { out = out })
 stopped_there unit first p q i steps before mid f out far l w h e puts = go (text_of unit p.at) refl f puts
   where
@@ -251,10 +263,12 @@ stopped_there unit first p q i steps before mid f out far l w h e puts = go (tex
         record {
           by_answer = tt;
           fronts = fronts_cut unit (point_of unit first) i steps before (point_of unit p) mid (state_of unit q.at) x out far l (place_law unit p q (Some x) w e t) r;
+          bound = stopped_bound unit first p q i steps before mid far l h e;
         }
     go (Some x) t (fault.Out to.Err taken) r = cc
     go (Some x) t (fault.Out to.Out taken) r =
         record {
-          by_answer = refused unit (point_of unit first) i steps before (point_of unit p) mid (point_of unit q) x taken out far l (ap (λ k. (state_of unit k).ended) (ap (λ k. k.at) e) ∙ text_no_end unit p.at x t) (place_law unit p q (Some x) w e t) (place_done p q (length unit) h e) r.1 r.2 r.3;
-          fronts = fronts_cut unit (point_of unit first) i steps before (point_of unit p) mid (state_of unit q.at) x out far l (place_law unit p q (Some x) w e t) (front_of_text mid.out x taken out r.3);
+          by_answer = refused unit (point_of unit first) i steps before (point_of unit p) mid (point_of unit q) x taken out far l (ap (λ k. (state_of unit k).ended) (ap (λ k. k.at) e) ∙ text_no_end unit p.at x t) (place_law unit p q (Some x) w e t) (place_done p q (length unit) h e) r.1 r.3 r.4;
+          fronts = fronts_cut unit (point_of unit first) i steps before (point_of unit p) mid (state_of unit q.at) x out far l (place_law unit p q (Some x) w e t) (front_of_text mid.out x taken out r.2 r.4);
+          bound = stopped_bound unit first p q i steps before mid far l h e;
         }

@@ -1,14 +1,13 @@
 -- One step of a unit from a place.
-use Rattle.std.proofs.Common.{◌≡◌, ℕ, zero, suc, ◌+◌, ◌≤◌, ◌<◌, Bool, true, false, cond, ltb, List, [], ◌∷◌, length, drop, Option, Some, None, refl, sym, ap, ◌∙◌, arith, add-one, pos}
+use Rattle.std.proofs.Common.{◌≡◌, ℕ, zero, suc, ◌+◌, ◌≤◌, Bool, true, false, cond, ltb, List, [], ◌∷◌, length, drop, Option, Some, None, refl, sym, ap, ◌∙◌, arith, add-one, pos}
 use Rattle.std.specs.List.{slice_get}
 use Rattle.std.proofs.lemmas.Option.{slice_get_within}
 use Rattle.std.proofs.lemmas.Bool.{lt-ltb, le-ltb, ltb-true}
 use Rattle.vg_base.specs.declared.event.CEnd.{CEnd}
 use Rattle.vg_base.specs.declared.event.CEnd.TheVariants as end
 use Rattle.vg_base.specs.Machine.{move}
-use Rattle.vg_base.specs.Headline.{Said}
 use Rattle.c_reader.specs.Dialect.{Texts}
-use Rattle.c_reader.specs.CMeaning.{Call, Return, CState, body, c_next}
+use Rattle.c_reader.specs.CMeaning.{Call, Return, body, c_next}
 use Rattle.c_machine.specs.declared.progress.Progress.{Progress}
 use Rattle.c_machine.specs.declared.progress.Progress.TheVariants.{NotEntered, Statement, Ended}
 use Rattle.c_machine.specs.declared.progress.Place.{Place}
@@ -63,7 +62,7 @@ after_within unit (Ended e) w = tt
 -- behind a text there is no end
 pub text_no_end : (unit : Texts) (p : Progress) (t : List ℕ) → text_of unit p ≡ Some t → (state_of unit (after (length unit) p)).ended ≡ None
 text_no_end unit NotEntered t h = cc
-text_no_end unit (Statement k) t h = 
+text_no_end unit (Statement k) t h =
     ap (λ b. (state_of unit (cond b (Statement (k + 1)) (Ended (end.Ended (pos 0))))).ended) (lt-ltb k (length unit) (slice_get_within unit k t h))
 text_no_end unit (Ended e) t h = cc
 
@@ -78,6 +77,11 @@ counted_once NotEntered h = refl
 counted_once (Statement k) h = refl
 counted_once (Ended e) h = absurd (h e refl)
 
+pub counted_bound : (p : Progress) → counted p ≤ 1
+counted_bound NotEntered = omega arith
+counted_bound (Statement k) = omega arith
+counted_bound (Ended e) = omega arith
+
 pub counted_made : (unit : Texts) (p : Progress) → steps_made (machine_of unit) 1 (state_of unit p) ≡ counted p
 counted_made unit NotEntered = refl
 counted_made unit (Statement k) = refl
@@ -91,6 +95,7 @@ told_law unit p = go (text_of unit p) refl
     at NotEntered = (refl, refl)
     at (Statement k) = (refl, refl)
     at (Ended e) = (refl, refl)
+
     go : (o : Option (List ℕ)) → text_of unit p ≡ o → Tells (told_of o (after (length unit) p)) (says o) (state_of unit (after (length unit) p)).ended
     go (Some t) h = (refl, text_no_end unit p t h)
     go None h = at (after (length unit) p)

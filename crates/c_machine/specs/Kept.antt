@@ -1,5 +1,5 @@
 -- What a machine is seen as, and one step of it.
-use Rattle.std.specs.Prelude.{◌≡◌, ℕ, zero, suc, ◌+◌, Bool, true, false, List, [], ◌∷◌, Option, Some, None, Result, Ok, Err, length}
+use Rattle.std.specs.Prelude.{◌≡◌, ℕ, zero, suc, ◌+◌, ◌≤◌, Bool, true, List, [], ◌∷◌, Option, Some, None, Result, Ok, Err, length}
 use Rattle.vg_base.specs.declared.event.CEnd.{CEnd}
 use Rattle.vg_base.specs.declared.event.Event.TheVariants.{Print}
 use Rattle.vg_base.specs.declared.event.Stream.TheVariants.{Out}
@@ -8,7 +8,7 @@ use Rattle.vg_base.specs.Machine.{Machine, move}
 use Rattle.vg_base.specs.World.{World}
 use Rattle.vg_base.specs.Headline.{Said, Happens}
 use Rattle.c_reader.specs.Dialect.{Texts}
-use Rattle.c_reader.specs.CMeaning.{CState, c_meaning, c_opening}
+use Rattle.c_reader.specs.CMeaning.{CState, c_meaning}
 use Rattle.c_machine.specs.declared.progress.Progress.{Progress}
 use Rattle.c_machine.specs.declared.progress.Progress.TheVariants as at
 use Rattle.c_machine.specs.declared.machine.Stepped.{Stepped}
@@ -75,6 +75,7 @@ exhausted_after (Err _) b = true
 -- one call of `step`
 pub record Steps (old : Kept) (answer : Result Stepped Memory) (new : Kept) : Type 0 where
   pub by_answer : StepsAt old.unit (point old) answer (point new)
+  pub bound : new.done ≤ old.done + 1
   pub unit : new.unit ≡ old.unit
   pub world : new.world ≡ old.world
   pub exhausted : new.exhausted ≡ exhausted_after answer old.exhausted

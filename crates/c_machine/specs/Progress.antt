@@ -1,5 +1,5 @@
 -- How far a run of a unit came, the state that this is, and one step on from there.
-use Rattle.std.specs.Prelude.{◌≡◌, ℕ, ◌+◌, ◌≤◌, ltb, cond, List, [], ◌∷◌, length, drop, Option, Some, None, slice_get, pos}
+use Rattle.std.specs.Prelude.{ℕ, ◌+◌, ◌≤◌, ltb, cond, List, [], ◌∷◌, drop, Option, Some, None, slice_get, pos}
 use Rattle.vg_base.specs.declared.event.CEnd.TheVariants as end
 use Rattle.vg_base.specs.declared.event.Event.TheVariants.{Print}
 use Rattle.vg_base.specs.declared.event.Stream.TheVariants.{Out}

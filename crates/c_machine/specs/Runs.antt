@@ -4,12 +4,12 @@ use Rattle.vg_base.specs.declared.event.CEnd.{CEnd}
 use Rattle.vg_base.specs.declared.event.Event.TheVariants.{Print}
 use Rattle.vg_base.specs.declared.event.Stream.{Stream}
 use Rattle.vg_base.specs.declared.event.Stream.TheVariants as to
-use Rattle.vg_base.specs.Machine.{Machine, move, moves, said}
+use Rattle.vg_base.specs.Machine.{move, moves, said}
 use Rattle.vg_base.specs.Run.{Begins}
-use Rattle.vg_base.specs.Headline.{Said, Happens, events, printed}
+use Rattle.vg_base.specs.Headline.{Happens, events, printed}
 use Rattle.vg_base.specs.Outside.{SinkView, Takes, Rose}
 use Rattle.c_reader.specs.Dialect.{Texts}
-use Rattle.c_reader.specs.CMeaning.{CState, c_opening}
+use Rattle.c_reader.specs.CMeaning.{CState}
 use Rattle.c_machine.specs.declared.run.RunEnd.{RunEnd}
 use Rattle.c_machine.specs.declared.run.RunEnd.TheVariants.{Done, Spent}
 use Rattle.c_machine.specs.declared.run.RunFault.{RunFault}
@@ -39,12 +39,13 @@ pub record TookFront (old : SinkView) (bytes : List ℕ) (new : SinkView) : Type
   pub front : List ℕ
   pub begins : Begins front bytes
   pub took : Takes old front new
+  pub faults : old.faults ≤ new.faults
 
 -- one print, which has one stream in this C
 abbrev pub PutsText : SinkView → List ℕ → Result (Unit {0}) RunFault → SinkView → Type 0
 PutsText old text (Ok _) new = (old.faults ≤ new.faults) × Takes old text new
 PutsText old text (Err (fault.Out stream taken)) new =
-    (stream ≡ to.Out) × (taken < length text) × Rose old.faults new.faults × Takes old (take taken text) new
+    (stream ≡ to.Out) × (taken < length text) × (old.faults ≤ new.faults) × Rose old.faults new.faults × Takes old (take taken text) new
 PutsText old text (Err fault.Memory) new = TookFront old text new
 
 -- the print of a step that prints this text, or nothing
@@ -89,6 +90,7 @@ TookFronts unit s steps before after = (p : Stream) → TookFront (sink p before
 pub record RunsSteps (unit : Texts) (start : Point) (steps : ℕ) (before : Sinks) (answer : Result (Unit {0}) RunFault) (now : Point) (after : Sinks) : Type 0 where
   pub by_answer : RunsBy unit start steps before answer now after
   pub fronts : TookFronts unit start.state steps before after
+  pub bound : now.done ≤ start.done + steps
 
 -- an end is answered exactly where the state has it
 abbrev pub end_of : Option CEnd → RunEnd
@@ -106,6 +108,7 @@ pub record Runs (old : Kept) (steps : ℕ) (before : Sinks) (answer : Result Run
   pub by_answer : RunsBy old.unit (point old) steps before answer (point new) after
   pub answered : IfOk answer (λ e. e ≡ end_of new.state.ended)
   pub fronts : TookFronts old.unit old.state steps before after
+  pub bound : new.done ≤ old.done + steps
   pub unit : new.unit ≡ old.unit
   pub world : new.world ≡ old.world
   pub exhausted : new.exhausted ≡ exhausted_by answer old.exhausted

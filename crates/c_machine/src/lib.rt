@@ -9,3 +9,6 @@ mod run;
 pub use laws::{counts_each_step, prints_grow};
 pub use machine::{Machine, Stepped, load};
 pub use run::{RunEnd, RunFault};
+
+#[cfg(test)]
+mod tests;

@@ -89,6 +89,7 @@ fn step_at(alloc: Global, texts: &[Bytes], place: &mut Place) -> Result<Stepped,
     requires room { place.old.done + 1 ≤ 2 ^ 59 }
     ensures steps { StepsAt texts.now (point_of texts.now place.old) result (point_of texts.now place.new) }
     ensures within { Within (length texts.now) place.new.at }
+    ensures bound { place.new.done ≤ place.old.done + 1 }
 {
     let stepped = tell(alloc, texts, place.at)?;
     go_on(texts.len(), place);
@@ -111,7 +112,12 @@ impl Machine {
     }
 
     /// Makes so many steps, or fewer where an end comes, and puts each print on its sink before the next step is made.
-    pub fn run<O: Sink, E: Sink>(&mut self, steps: u64, out: &mut O, err: &mut E) -> Result<RunEnd, RunFault>
+    pub fn run<O: Sink, E: Sink>(
+        &mut self,
+        steps: u64,
+        out: &mut O,
+        err: &mut E,
+    ) -> Result<RunEnd, RunFault>
         requires { self.old.done + steps ≤ 2 ^ 59 }
         ensures runs { Runs self.old steps (record { out = O.seen out.old; err = E.seen err.old }) result self.new (record { out = O.seen out.new; err = E.seen err.new }) }
         ensures exhausted { self.old.exhausted ≡ true → Refuses self.old (record { out = O.seen out.old; err = E.seen err.old }) result self.new (record { out = O.seen out.new; err = E.seen err.new }) }
@@ -119,7 +125,14 @@ impl Machine {
         if self.exhausted {
             return Err(RunFault::Memory);
         }
-        match run_steps(self.alloc, &self.unit.texts, &mut self.place, steps, out, err) {
+        match run_steps(
+            self.alloc,
+            &self.unit.texts,
+            &mut self.place,
+            steps,
+            out,
+            err,
+        ) {
             Ok(()) => Ok(self.end()),
             Err(RunFault::Memory) => {
                 self.exhausted = true;

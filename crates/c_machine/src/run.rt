@@ -39,7 +39,12 @@ fn put_text<O: Sink>(alloc: Global, out: &mut O, text: &Bytes) -> Result<(), Run
 }
 
 // Makes one step, and puts its print before the next.
-fn run_step<O: Sink>(alloc: Global, texts: &[Bytes], place: &mut Place, out: &mut O) -> Result<(), RunFault>
+fn run_step<O: Sink>(
+    alloc: Global,
+    texts: &[Bytes],
+    place: &mut Place,
+    out: &mut O,
+) -> Result<(), RunFault>
     requires { place.old.done < 2 ^ 59 }
     ensures place { place.new ≡ moved (length texts.now) place.old }
     ensures puts { PutsNext (O.seen out.old) (text_of texts.now place.old.at) result (O.seen out.new) }
@@ -53,7 +58,14 @@ fn run_step<O: Sink>(alloc: Global, texts: &[Bytes], place: &mut Place, out: &mu
 }
 
 /// Makes so many steps, or fewer where an end comes or a print is refused.
-pub fn run_steps<O: Sink, E: Sink>(alloc: Global, texts: &[Bytes], place: &mut Place, steps: u64, out: &mut O, err: &mut E) -> Result<(), RunFault>
+pub fn run_steps<O: Sink, E: Sink>(
+    alloc: Global,
+    texts: &[Bytes],
+    place: &mut Place,
+    steps: u64,
+    out: &mut O,
+    err: &mut E,
+) -> Result<(), RunFault>
     requires within { Within (length texts.now) place.old.at }
     requires room { place.old.done + steps ≤ 2 ^ 59 }
     ensures runs { RunsSteps texts.now (point_of texts.now place.old) steps (record { out = O.seen out.old; err = E.seen err.old }) result (point_of texts.now place.new) (record { out = O.seen out.new; err = E.seen err.new }) }
