@@ -69,14 +69,14 @@ pub data Course (file : List ℕ) (o e : SinkView) : List Call → SinkView → 
   gone : (source c : List ℕ) → IsCompiled (source ∷ []) false c → Course file o e (Read file (Ok source) ∷ Write (c_file file) c (Ok tt) ∷ Read (c_file file) (Err fault.Missing) ∷ []) o e kind.NoFile (c_file file) []
   unread_back : (source c : List ℕ) → IsCompiled (source ∷ []) false c → Course file o e (Read file (Ok source) ∷ Write (c_file file) c (Ok tt) ∷ Read (c_file file) (Err fault.Failed) ∷ []) o e kind.ReadFault (c_file file) []
   c_refused : (source c bytes : List ℕ) (r : _) → IsCompiled (source ∷ []) false c → Answers bytes (length c) (Err r) → Course file o e (Read file (Ok source) ∷ Write (c_file file) c (Ok tt) ∷ Read (c_file file) (Ok bytes) ∷ []) o e (kind.CRefused r) (c_file file) []
-  ran : (source c bytes : List ℕ) (unit : Texts) (o' e' : SinkView) (k : Kind) → IsCompiled (source ∷ []) false c → Answers bytes (length c) (Ok unit) → Ran unit (world_of file) o o' e e' k → Course file o e (Read file (Ok source) ∷ Write (c_file file) c (Ok tt) ∷ Read (c_file file) (Ok bytes) ∷ []) o' e' k [] []
-  memory : (calls : List Call) → IsPlanned file calls → Course file o e calls o e kind.Memory [] []
+  ran : (source c bytes : List ℕ) (unit : Texts) (o' e' : SinkView) (k : Kind) (named spoken_of : List ℕ) → IsCompiled (source ∷ []) false c → Answers bytes (length c) (Ok unit) → Ran unit (world_of file) o o' e e' k → Course file o e (Read file (Ok source) ∷ Write (c_file file) c (Ok tt) ∷ Read (c_file file) (Ok bytes) ∷ []) o' e' k named spoken_of
+  memory : (calls : List Call) (named spoken_of : List ℕ) → IsPlanned file calls → Course file o e calls o e kind.Memory named spoken_of
 
 -- any words: those outside the grammar touch nothing
 pub data Goes (words : List (List ℕ)) (o e : SinkView) : List Call → SinkView → SinkView → Kind → List ℕ → List ℕ → Type 0 where
-  usage : ((file : List ℕ) → IsRun words file → ⊥) → Goes words o e [] o e kind.Usage [] []
+  usage : (named source : List ℕ) → ((file : List ℕ) → IsRun words file → ⊥) → Goes words o e [] o e kind.Usage named source
   -- memory may run out before the words are known to be in the grammar
-  memory : Goes words o e [] o e kind.Memory [] []
+  memory : (named source : List ℕ) → Goes words o e [] o e kind.Memory named source
   run : (file : List ℕ) (calls : List Call) (o' e' : SinkView) (k : Kind) (named source : List ℕ) → IsRun words file → Course file o e calls o' e' k named source → Goes words o e calls o' e' k named source
 
 -- The message line of a status is put: all of it, or a front before a put is refused.
@@ -85,8 +85,15 @@ pub data Closes (line : List ℕ) (k : Kind) (e e' : SinkView) : Kind → Type 0
   refused : (n : ℕ) → n < length line → TakesAll (take n line) e e' → Rose e.faults e'.faults → Closes line k e e' (unheard k)
   memory : (n : ℕ) → n < length line → TakesAll (take n line) e e' → Closes line k e e' kind.Memory
 
--- ONE CALL of the program.
-pub record IsCall (words : List (List ℕ)) (f f' : FolderView) (o o' e e' : SinkView) (status : Status) : Type 0 where
+-- The answer is said on err, and the status tells it. For want of memory the line may be that of this want.
+pub record Finishes (answer : Kind) (named source : List ℕ) (e e' : SinkView) (status : Status) : Type 0 where
+  pub spoken : Kind
+  pub is_spoken : (spoken ≡ answer) ⊎ (spoken ≡ kind.Memory)
+  pub closes : Closes (line_of spoken named source) spoken e e' status.kind
+  pub code : status.code ≡ exit_byte status.kind
+
+-- a call that goes so, from its calls on the folder to its message line
+pub record CallBy (goes_so : List Call → SinkView → SinkView → Kind → List ℕ → List ℕ → Type 0) (f f' : FolderView) (o' e' : SinkView) (status : Status) : Type 0 where
   pub calls : List Call
   pub chain : Chain f calls f'
   -- err behind the run, and the status before the message line
@@ -94,9 +101,10 @@ pub record IsCall (words : List (List ℕ)) (f f' : FolderView) (o o' e e' : Sin
   pub answer : Kind
   pub named : List ℕ
   pub source : List ℕ
-  pub goes : Goes words o e calls o' middle answer named source
-  -- for want of memory the line that is put may be that of this want
-  pub spoken : Kind
-  pub is_spoken : (spoken ≡ answer) ⊎ (spoken ≡ kind.Memory)
-  pub closes : Closes (line_of spoken named source) spoken middle e' status.kind
-  pub code : status.code ≡ exit_byte status.kind
+  pub goes : goes_so calls o' middle answer named source
+  pub finishes : Finishes answer named source middle e' status
+
+-- ONE CALL of the program: the words and what it is given decide what it does, what its sinks take, and its status.
+abbrev pub IsCall : List (List ℕ) → FolderView → FolderView → SinkView → SinkView → SinkView → SinkView → Status → Type 0
+IsCall words f f' o o' e e' status = CallBy (Goes words o e) f f' o' e' status
+

@@ -1,6 +1,7 @@
 // The program vala2c.
 #![tactic(auto)]
 
+mod call;
 mod status;
 mod words;
 

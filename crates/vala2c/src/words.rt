@@ -86,6 +86,13 @@ pub fn name_in(alloc: Global, word: &str) -> Result<String, AllocError>
     Ok(name)
 }
 
+/// The C file of a program.
+pub fn c_file_of(alloc: Global, name: &str) -> Result<String, AllocError>
+    ensures { IfOk result (λ s. string_bytes s ≡ name.now ++ codes ".c") }
+{
+    format!(in alloc; "{name}.c")
+}
+
 fn begins_with_letter(bytes: &[u8]) -> bool
     ensures { result ≡ begins_with_letter_byte bytes.now }
 {

@@ -1,0 +1,3 @@
+pub mod MachineLaws
+pub mod StepLaws
+pub mod RunLaws

@@ -1,0 +1,4 @@
+pub mod Progress
+pub mod Kept
+pub mod Runs
+pub mod Laws

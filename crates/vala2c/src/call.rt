@@ -1,0 +1,189 @@
+// One call of the program: from its words, over the folder and the sinks, to its status.
+
+ghost use Rattle.std.specs.Prelude.{◌≡◌, map, []};
+ghost use Rattle.std.specs.String.{string_bytes};
+ghost use Rattle.vg_base.specs.World.{IsName};
+ghost use Rattle.vala2c.specs.Words.{c_file, name_of, world_of};
+ghost use Rattle.vala2c.specs.Course.{CallBy, Closes, Course, Finishes, IsCall, Ran};
+ghost use Rattle.vala2c.specs.Stages.{BackCalls, Stage, Written, read_kind, write_kind};
+
+use crate::status::{Kind, Status, kind_of, message, when_unheard};
+use crate::words::{c_file_of, file_word, name_in};
+use c_machine::{RunEnd, RunFault, load};
+use c_reader::{CUnit, read};
+use std::alloc::Global;
+use vala_compile::compile;
+use vg_base::{Fault, Folder, FolderFault, PutFault, Sink, put_all};
+
+/// How many steps a run may have.
+const BUDGET: u64 = 10_000_000;
+
+const MEMORY_LINE: &[u8] = b"vala2c: out of memory\n";
+
+/// One call of the program.
+pub fn vala2c<F: Folder, O: Sink, E: Sink>(
+    alloc: Global,
+    words: &[String],
+    folder: &mut F,
+    out: &mut O,
+    err: &mut E,
+) -> Status
+    ensures call { IsCall (map string_bytes words.now) (F.seen folder.old) (F.seen folder.new) (O.seen out.old) (O.seen out.new) (E.seen err.old) (E.seen err.new) result }
+{
+    let Some(file) = file_word(words) else {
+        return finish(alloc, Kind::Usage, "", &[], err);
+    };
+    let Ok(name) = name_in(alloc, file) else {
+        return finish(alloc, Kind::Memory, "", &[], err);
+    };
+    let Ok(target) = c_file_of(alloc, name.as_str()) else {
+        return finish(alloc, Kind::Memory, "", &[], err);
+    };
+    if file == target.as_str() {
+        return finish(alloc, Kind::Usage, "", &[], err);
+    }
+    run_file(alloc, file, target.as_str(), name, folder, out, err)
+}
+
+// `run FILE`: the name and the C file are those of the file.
+fn run_file<F: Folder, O: Sink, E: Sink>(
+    alloc: Global,
+    file: &str,
+    target: &str,
+    name: String,
+    folder: &mut F,
+    out: &mut O,
+    err: &mut E,
+) -> Status
+    requires named { string_bytes name ≡ name_of file.now }
+    requires target { target.now ≡ c_file file.now }
+    ensures { CallBy (Course file.now (O.seen out.old) (E.seen err.old)) (F.seen folder.old) (F.seen folder.new) (O.seen out.new) (E.seen err.new) result }
+{
+    let source = match folder.read_file(alloc, file) {
+        Ok(source) => source,
+        Err(fault) => return finish(alloc, kind_of_read(fault), file, &[], err),
+    };
+    let files = [source];
+    match compile(alloc, &files, name.as_str(), false) {
+        Ok(emitted) => {
+            let kind = write_and_run(alloc, target, &emitted.c, name, folder, out, err);
+            finish(alloc, kind, target, &[], err)
+        }
+        Err(Fault::Refused(refusal)) => {
+            finish(alloc, Kind::Refused(refusal), file, &files[0], err)
+        }
+        Err(Fault::Memory) => finish(alloc, Kind::Memory, file, &[], err),
+    }
+}
+
+// The C file is written, and then run as it is read back.
+fn write_and_run<F: Folder, O: Sink, E: Sink>(
+    alloc: Global,
+    target: &str,
+    c: &[u8],
+    name: String,
+    folder: &mut F,
+    out: &mut O,
+    err: &mut E,
+) -> Kind
+    requires { IsName (string_bytes name) }
+    ensures { Stage (Written target.now c.now (record { name = string_bytes name; input = []; entries = [] }) (O.seen out.old) (E.seen err.old)) (F.seen folder.old) (F.seen folder.new) (O.seen out.new) (E.seen err.new) result }
+{
+    match folder.write_file(alloc, target, c) {
+        Ok(()) => run_back(alloc, target, c.len() as u64, name, folder, out, err),
+        Err(fault) => kind_of_write(fault),
+    }
+}
+
+// The C file is read back and run.
+fn run_back<F: Folder, O: Sink, E: Sink>(
+    alloc: Global,
+    target: &str,
+    limit: u64,
+    name: String,
+    folder: &mut F,
+    out: &mut O,
+    err: &mut E,
+) -> Kind
+    requires { IsName (string_bytes name) }
+    ensures { Stage (BackCalls target.now limit (record { name = string_bytes name; input = []; entries = [] }) (O.seen out.old) (E.seen err.old)) (F.seen folder.old) (F.seen folder.new) (O.seen out.new) (E.seen err.new) result }
+{
+    let bytes = match folder.read_file(alloc, target) {
+        Ok(bytes) => bytes,
+        Err(fault) => return kind_of_read(fault),
+    };
+    match read(alloc, &bytes, limit) {
+        Ok(unit) => run_unit(alloc, unit, name, out, err),
+        Err(Fault::Refused(refusal)) => Kind::CRefused(refusal),
+        Err(Fault::Memory) => Kind::Memory,
+    }
+}
+
+// The unit runs within the budget.
+fn run_unit<O: Sink, E: Sink>(
+    alloc: Global,
+    unit: CUnit,
+    name: String,
+    out: &mut O,
+    err: &mut E,
+) -> Kind
+    requires { IsName (string_bytes name) }
+    ensures { Ran unit (record { name = string_bytes name; input = []; entries = [] }) (O.seen out.old) (O.seen out.new) (E.seen err.old) (E.seen err.new) result }
+{
+    let Ok(mut machine) = load(alloc, unit, Vec::new(alloc), name) else {
+        return Kind::Memory;
+    };
+    match machine.run(BUDGET, out, err) {
+        Ok(RunEnd::Done(end)) => kind_of(end),
+        Ok(RunEnd::Spent) => Kind::StepsSpent,
+        Err(RunFault::Out { .. }) => Kind::OutFault,
+        Err(RunFault::Memory) => Kind::Memory,
+    }
+}
+
+fn kind_of_read(fault: FolderFault) -> Kind
+    ensures { result ≡ read_kind fault }
+{
+    match fault {
+        FolderFault::Missing => Kind::NoFile,
+        FolderFault::Failed => Kind::ReadFault,
+        FolderFault::Memory => Kind::Memory,
+    }
+}
+
+fn kind_of_write(fault: FolderFault) -> Kind
+    ensures { result ≡ write_kind fault }
+{
+    match fault {
+        FolderFault::Missing | FolderFault::Failed => Kind::WriteFault,
+        FolderFault::Memory => Kind::Memory,
+    }
+}
+
+// The answer is said on err, and the status tells it.
+fn finish<E: Sink>(
+    alloc: Global,
+    answer: Kind,
+    named: &str,
+    source: &[u8],
+    err: &mut E,
+) -> Status
+    ensures { Finishes answer named.now source.now (E.seen err.old) (E.seen err.new) result }
+{
+    match message(alloc, answer, named, source) {
+        Ok(line) => Status::new(put_line(alloc, answer, line.as_bytes(), err)),
+        Err(_) => Status::new(put_line(alloc, Kind::Memory, MEMORY_LINE, err)),
+    }
+}
+
+fn put_line<E: Sink>(alloc: Global, spoken: Kind, line: &[u8], err: &mut E) -> Kind
+    ensures { Closes line.now spoken (E.seen err.old) (E.seen err.new) result }
+{
+    match put_all(alloc, err, line) {
+        Ok(()) => spoken,
+        Err(fault) => match fault.cause {
+            PutFault::Failed => when_unheard(spoken),
+            PutFault::Memory => Kind::Memory,
+        },
+    }
+}
