@@ -17,8 +17,8 @@ use Rattle.c_machine.specs.declared.progress.Progress.TheVariants.{Ended}
 use Rattle.c_machine.specs.declared.progress.Place.{Place}
 use Rattle.c_machine.specs.declared.run.RunFault.{RunFault}
 use Rattle.c_machine.specs.declared.run.RunFault.TheVariants as fault
-use Rattle.c_machine.specs.Progress.{Point, state_of, Within, after, text_of, says, counted, moved, point_of}
-use Rattle.c_machine.specs.Kept.{machine_of, made_unless, steps_made}
+use Rattle.c_machine.specs.Progress.{state_of, Within, after, text_of, says, counted, moved, point_of}
+use Rattle.c_machine.specs.Kept.{machine_of, made_unless, steps_made, Point}
 use Rattle.c_machine.specs.Runs.{Sinks, sink, prints, TookFront, PutsNext, Finished, Refused, RunsSteps, TookFronts}
 use Rattle.c_machine.proofs.StepLaws.{step_law, text_no_end, no_end, counted_once}
 use Rattle.c_machine.proofs.MachineLaws.{moves_add, said_add, made_add, moves_end, said_end, made_end, none_before, made_bound}

@@ -12,8 +12,8 @@ use Rattle.c_machine.specs.declared.progress.Progress.{Progress}
 use Rattle.c_machine.specs.declared.progress.Progress.TheVariants.{NotEntered, Statement, Ended}
 use Rattle.c_machine.specs.declared.progress.Place.{Place}
 use Rattle.c_machine.specs.declared.machine.Stepped.{Stepped}
-use Rattle.c_machine.specs.Progress.{state_of, Within, after, text_of, says, counted, moved, point_of}
-use Rattle.c_machine.specs.Kept.{machine_of, steps_made, Tells, told, told_of, IsStep}
+use Rattle.c_machine.specs.Progress.{state_of, Within, after, text_of, says, counted, moved, point_of, told, told_of}
+use Rattle.c_machine.specs.Kept.{machine_of, steps_made, Tells, IsStep}
 
 -- a call of the body
 pub body_call : (unit : Texts) (k : ℕ) (t : List ℕ) → slice_get unit k ≡ Some t → drop k (body unit) ≡ Call t ∷ drop (suc k) (body unit)

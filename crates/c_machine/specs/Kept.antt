@@ -1,19 +1,15 @@
 -- What a machine is seen as, and one step of it.
-use Rattle.std.specs.Prelude.{◌≡◌, ℕ, zero, suc, ◌+◌, ◌≤◌, Bool, true, List, [], ◌∷◌, Option, Some, None, Result, Ok, Err, length}
+use Rattle.std.specs.Prelude.{◌≡◌, ℕ, zero, suc, ◌+◌, ◌≤◌, Bool, true, List, [], ◌∷◌, Option, Some, None, Result, Ok, Err}
 use Rattle.vg_base.specs.declared.event.CEnd.{CEnd}
 use Rattle.vg_base.specs.declared.event.Event.TheVariants.{Print}
-use Rattle.vg_base.specs.declared.event.Stream.TheVariants.{Out}
 use Rattle.vg_base.specs.declared.event.Memory.{Memory}
 use Rattle.vg_base.specs.Machine.{Machine, move}
 use Rattle.vg_base.specs.World.{World}
 use Rattle.vg_base.specs.Headline.{Said, Happens}
 use Rattle.c_reader.specs.Dialect.{Texts}
 use Rattle.c_reader.specs.CMeaning.{CState, c_meaning}
-use Rattle.c_machine.specs.declared.progress.Progress.{Progress}
-use Rattle.c_machine.specs.declared.progress.Progress.TheVariants as at
 use Rattle.c_machine.specs.declared.machine.Stepped.{Stepped}
 use Rattle.c_machine.specs.declared.machine.Stepped.TheVariants.{Ran, Printed, Ended}
-use Rattle.c_machine.specs.Progress.{after, text_of, Point}
 
 -- A machine: its unit, the world that it was loaded in, its state, how many steps it made, and whether memory ran out in an earlier call.
 pub record Kept : Type 0 where
@@ -42,17 +38,11 @@ Tells Ran said ended = (said ≡ []) × (ended ≡ None)
 Tells (Printed stream bytes) said ended = (said ≡ Happens (Print stream bytes) ∷ []) × (ended ≡ None)
 Tells (Ended e) said ended = (said ≡ []) × (ended ≡ Some e)
 
--- what a step from here answers
-abbrev pub told_of : Option (List ℕ) → Progress → Stepped
-told_of (Some text) next = Printed Out text
-told_of None at.NotEntered = Ran
-told_of None (at.Statement k) = Ran
-told_of None (at.Ended e) = Ended e
+-- where a machine stands: its state, and how many steps it made
+pub record Point : Type 0 where
+  pub state : CState
+  pub done : ℕ
 
-abbrev pub told : Texts → Progress → Stepped
-told unit p = told_of (text_of unit p) (after (length unit) p)
-
--- the place where a machine stands
 abbrev pub point : Kept → Point
 point k = record { state = k.state; done = k.done }
 

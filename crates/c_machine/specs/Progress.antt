@@ -1,5 +1,5 @@
 -- How far a run of a unit came, the state that this is, and one step on from there.
-use Rattle.std.specs.Prelude.{ℕ, ◌+◌, ◌≤◌, ltb, cond, List, [], ◌∷◌, drop, Option, Some, None, slice_get, pos}
+use Rattle.std.specs.Prelude.{length, ℕ, ◌+◌, ◌≤◌, ltb, cond, List, [], ◌∷◌, drop, Option, Some, None, slice_get, pos}
 use Rattle.vg_base.specs.declared.event.CEnd.TheVariants as end
 use Rattle.vg_base.specs.declared.event.Event.TheVariants.{Print}
 use Rattle.vg_base.specs.declared.event.Stream.TheVariants.{Out}
@@ -9,6 +9,9 @@ use Rattle.c_reader.specs.CMeaning.{CState, body, c_opening}
 use Rattle.c_machine.specs.declared.progress.Progress.{Progress}
 use Rattle.c_machine.specs.declared.progress.Progress.TheVariants.{NotEntered, Statement, Ended}
 use Rattle.c_machine.specs.declared.progress.Place.{Place}
+use Rattle.c_machine.specs.declared.machine.Stepped.{Stepped}
+use Rattle.c_machine.specs.declared.machine.Stepped.TheVariants as step
+use Rattle.c_machine.specs.Kept.{Point}
 
 -- the state: what is left of the body from the next statement on
 abbrev pub state_of : Texts → Progress → CState
@@ -49,10 +52,16 @@ counted (Ended e) = 0
 abbrev pub moved : ℕ → Place → Place
 moved calls p = record { at = after calls p.at; done = p.done + counted p.at }
 
--- where a machine stands: its state, and how many steps it made
-pub record Point : Type 0 where
-  pub state : CState
-  pub done : ℕ
+-- what a step from here answers
+abbrev pub told_of : Option (List ℕ) → Progress → Stepped
+told_of (Some text) next = step.Printed Out text
+told_of None NotEntered = step.Ran
+told_of None (Statement k) = step.Ran
+told_of None (Ended e) = step.Ended e
 
+abbrev pub told : Texts → Progress → Stepped
+told unit p = told_of (text_of unit p) (after (length unit) p)
+
+-- where a machine stands that came this far
 abbrev pub point_of : Texts → Place → Point
 point_of unit p = record { state = state_of unit p.at; done = p.done }

@@ -14,8 +14,7 @@ use Rattle.c_machine.specs.declared.run.RunEnd.{RunEnd}
 use Rattle.c_machine.specs.declared.run.RunEnd.TheVariants.{Done, Spent}
 use Rattle.c_machine.specs.declared.run.RunFault.{RunFault}
 use Rattle.c_machine.specs.declared.run.RunFault.TheVariants as fault
-use Rattle.c_machine.specs.Progress.{Point}
-use Rattle.c_machine.specs.Kept.{Kept, machine_of, steps_made, point}
+use Rattle.c_machine.specs.Kept.{Kept, machine_of, steps_made, point, Point}
 
 -- what the two sinks of a run tell
 pub record Sinks : Type 0 where
@@ -41,7 +40,7 @@ pub record TookFront (old : SinkView) (bytes : List ℕ) (new : SinkView) : Type
   pub took : Takes old front new
   pub faults : old.faults ≤ new.faults
 
--- one print, which has one stream in this C
+-- One print. In this C each goes to the same stream.
 abbrev pub PutsText : SinkView → List ℕ → Result (Unit {0}) RunFault → SinkView → Type 0
 PutsText old text (Ok _) new = (old.faults ≤ new.faults) × Takes old text new
 PutsText old text (Err (fault.Out stream taken)) new =

@@ -3,8 +3,8 @@
 ghost use Rattle.std.specs.Prelude.{◌≡◌, ◌+◌, ◌≤◌, ◌^◌, [], Bool, true, false, IfOk, IsErr, length, string_bytes};
 ghost use Rattle.vg_base.specs.World.{IsName};
 ghost use Rattle.c_reader.specs.CMeaning.{c_opening};
-ghost use Rattle.c_machine.specs.Kept.{Steps, StepsAt, told};
-ghost use Rattle.c_machine.specs.Progress.{Within, point_of};
+ghost use Rattle.c_machine.specs.Kept.{Steps, StepsAt};
+ghost use Rattle.c_machine.specs.Progress.{Within, point_of, told};
 ghost use Rattle.c_machine.specs.Runs.{Runs, Refuses, end_of};
 
 use crate::progress::{Place, Progress, go_on, next_progress, text_at};

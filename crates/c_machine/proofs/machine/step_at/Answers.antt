@@ -1,6 +1,5 @@
 use Rattle.std.proofs.Common.{◌≡◌, ◌+◌, arith, ap, rules}
-use Rattle.c_machine.specs.Kept.{told}
-use Rattle.c_machine.specs.Progress.{counted}
+use Rattle.c_machine.specs.Progress.{counted, told}
 use Rattle.c_machine.proofs.StepLaws.{step_is, counted_bound}
 use Rattle.c_machine.proofs.machine.step_at.Goals as goal
 
