@@ -107,4 +107,3 @@ pub record CallBy (goes_so : List Call → SinkView → SinkView → Kind → Li
 -- ONE CALL of the program: the words and what it is given decide what it does, what its sinks take, and its status.
 abbrev pub IsCall : List (List ℕ) → FolderView → FolderView → SinkView → SinkView → SinkView → SinkView → Status → Type 0
 IsCall words f f' o o' e e' status = CallBy (Goes words o e) f f' o' e' status
-

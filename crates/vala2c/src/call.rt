@@ -161,13 +161,7 @@ fn kind_of_write(fault: FolderFault) -> Kind
 }
 
 // The answer is said on err, and the status tells it.
-fn finish<E: Sink>(
-    alloc: Global,
-    answer: Kind,
-    named: &str,
-    source: &[u8],
-    err: &mut E,
-) -> Status
+fn finish<E: Sink>(alloc: Global, answer: Kind, named: &str, source: &[u8], err: &mut E) -> Status
     ensures { Finishes answer named.now source.now (E.seen err.old) (E.seen err.new) result }
 {
     match message(alloc, answer, named, source) {

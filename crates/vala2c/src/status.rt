@@ -165,18 +165,33 @@ fn source_place(alloc: Global, file: &str, source: &[u8], at: u32) -> Result<Str
     line_place(alloc, file, line_number(before), column)
 }
 
-fn refused_message(alloc: Global, refusal: Refusal, file: &str, source: &[u8]) -> Result<String, AllocError>
+fn refused_message(
+    alloc: Global,
+    refusal: Refusal,
+    file: &str,
+    source: &[u8],
+) -> Result<String, AllocError>
     ensures { IfOk result (λ s. string_bytes s ≡ refusal_line file.now source.now refusal) }
 {
     let place = source_place(alloc, file, source, refusal.span.start)?;
-    located(alloc, place.as_str(), rule_name(refusal.rule), rule_text(refusal.rule))
+    located(
+        alloc,
+        place.as_str(),
+        rule_name(refusal.rule),
+        rule_text(refusal.rule),
+    )
 }
 
 fn c_refused_message(alloc: Global, refusal: CRefusal, file: &str) -> Result<String, AllocError>
     ensures { IfOk result (λ s. string_bytes s ≡ c_refusal_line file.now refusal) }
 {
     let place = byte_place(alloc, file, refusal.at)?;
-    located(alloc, place.as_str(), cause_name(refusal.cause), cause_text(refusal.cause))
+    located(
+        alloc,
+        place.as_str(),
+        cause_name(refusal.cause),
+        cause_text(refusal.cause),
+    )
 }
 
 fn trapped_message(alloc: Global, kind: TrapKind) -> Result<String, AllocError>
