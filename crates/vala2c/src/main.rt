@@ -4,6 +4,8 @@
 mod call;
 mod real;
 mod status;
+#[cfg(test)]
+mod tests;
 mod words;
 
 use call::vala2c;
