@@ -1,0 +1,4 @@
+void main () {
+  print ("a \"quoted\" word\n");
+  print ("a backslash: \\\n");
+}

@@ -1,0 +1,1 @@
+void main () { print ("a \"b\"\n"); print ("c\\d\n"); }

@@ -1,0 +1,1 @@
+void main () { print ("one"); print ("two"); print ("one"); }
