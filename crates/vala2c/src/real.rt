@@ -18,7 +18,10 @@ pub struct RealFolder<'a, R> {
 }
 
 impl<'a, R: Files + AllocGlobal> RealFolder<'a, R> {
-    pub fn new(rt: &'a R) -> Self {
+    /// Nothing failed yet.
+    pub fn new(rt: &'a R) -> Self
+        ensures { ⟦<RealFolder<'a, R> as Folder>⟧.seen result ≡ record { files = None; calls = None; faults = 0; misses = 0 } }
+    {
         RealFolder {
             rt,
             faults: 0,
@@ -71,7 +74,10 @@ pub struct RealSink<W> {
 }
 
 impl<W: Write> RealSink<W> {
-    pub fn new(writer: W) -> Self {
+    /// Nothing failed yet.
+    pub fn new(writer: W) -> Self
+        ensures { ⟦<RealSink<W> as Sink>⟧.seen result ≡ record { taken = None; faults = 0 } }
+    {
         RealSink { writer, faults: 0 }
     }
 
