@@ -1,3 +1,3 @@
-pub mod MachineLaws
+pub mod StepCounts
 pub mod StepLaws
-pub mod RunLaws
+pub mod PrintsTaken

@@ -1,4 +1,4 @@
-use Rattle.c_machine.proofs.RunLaws.{prints_grow}
+use Rattle.c_machine.proofs.PrintsTaken.{prints_grow}
 use Rattle.c_machine.proofs.laws.prints_grow.Goals as goal
 
 pub returns : goal.returns

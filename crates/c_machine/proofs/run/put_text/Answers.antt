@@ -1,6 +1,6 @@
 use Rattle.std.proofs.Common.{◌≤◌, rules, take}
 use Rattle.vg_base.specs.Outside.{Takes}
-use Rattle.c_machine.proofs.RunLaws.{front_of_text}
+use Rattle.c_machine.proofs.PrintsTaken.{front_of_text}
 use Rattle.c_machine.proofs.run.put_text.Goals as goal
 
 pub returns-in-Memory : goal.returns-in-Memory

@@ -2,7 +2,7 @@ use Rattle.std.proofs.Common.{◌≡◌, Err, ap, sym, subst, length, rules}
 use Rattle.c_machine.specs.Progress.{Within, state_of, point_of}
 use Rattle.c_machine.specs.Runs.{Sinks, Finished, RunsSteps}
 use Rattle.c_machine.proofs.StepLaws.{after_within}
-use Rattle.c_machine.proofs.RunLaws.{all_at_end, runs_finished, one_more_there, stopped_there}
+use Rattle.c_machine.proofs.PrintsTaken.{all_at_end, runs_finished, one_more_there, stopped_there}
 use Rattle.c_machine.proofs.run.run_steps.Goals as goal
 
 pub returns-in-Ended-clause-runs : goal.returns-in-Ended-clause-runs

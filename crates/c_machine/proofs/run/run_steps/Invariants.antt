@@ -1,6 +1,6 @@
 use Rattle.std.proofs.Common.{length}
 use Rattle.c_machine.specs.Progress.{Within, point_of}
-use Rattle.c_machine.proofs.RunLaws.{SoFar}
+use Rattle.c_machine.proofs.PrintsTaken.{SoFar}
 use Rattle.c_machine.proofs.run.run_steps.Given as goal
 
 -- the steps so far were made, none of them at an end, and their prints were put
