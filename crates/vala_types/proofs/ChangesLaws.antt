@@ -1,13 +1,12 @@
 -- The columns of the table of changes, and what the table says of owners.
-use Rattle.std.proofs.Common.{◌≡◌, ℕ, Bool, true, false, not, ◌&&◌, ◌||◌, if◌then◌else◌, Option, Some, None, refl, sym, ap, ◌∙◌}
-use Rattle.vg_base.specs.declared.event.ThingKind.{ThingKind}
+use Rattle.std.proofs.Common.{◌≡◌, Bool, true, false, not, ◌&&◌, ◌||◌, if◌then◌else◌, None, refl, sym, ◌∙◌}
 use Rattle.vala_types.specs.declared.types.Shape.{Shape}
 use Rattle.vala_types.specs.declared.types.Shape.TheVariants.{Void, Bool as Truth, Int, Text, Enum, Struct, Class, Interface, Delegate, Error, Array, Null, AsyncResult, ParamSpec}
 use Rattle.vala_types.specs.declared.types.VType.{VType}
 use Rattle.vala_types.specs.declared.ties.Ties.{Ties}
 use Rattle.vala_types.specs.declared.owners.Change.{Change}
-use Rattle.vala_types.specs.declared.owners.Change.TheVariants.{Keep, Move, CopyText, CopyArray, CopyStruct, CopyError, AddOwner, NotCopied}
-use Rattle.vala_types.specs.Fits.{ShapeFits, Fits, same, same_items, integer, enum, null_text, null_class, null_interface, null_delegate, null_error, null_array, base, interface, object, domain}
+use Rattle.vala_types.specs.declared.owners.Change.TheVariants.{Keep, Move}
+use Rattle.vala_types.specs.Fits.{ShapeFits, Fits, same}
 use Rattle.vala_types.specs.Changes.{is_plain, is_struct, owns, Row, fresh_to_owner, fresh_to_other, text_to_owner, text_to_other, array_to_owner, array_to_other, struct_to_owner, struct_to_other, error_to_owner, error_to_other, class_to_owner, class_to_other, interface_to_owner, interface_to_other, delegate_to_owner, delegate_to_other, plain, Changes, made_by, copied_thing, thing_made}
 use Rattle.vala_types.specs.Rows.{into_owner, into_other}
 

@@ -1,11 +1,11 @@
 -- What the table of fits says as a whole.
-use Rattle.std.proofs.Common.{◌≡◌, ℕ, zero, suc, ◌+◌, ◌<◌, ◌≤◌, Bool, true, false, List, [], ◌∷◌, Option, Some, None, refl, sym, ap, ◌∙◌, subst, arith, lit<}
+use Rattle.std.proofs.Common.{◌≡◌, ℕ, ◌<◌, ◌≤◌, true, false, [], ◌∷◌, Option, Some, None, refl, ◌∙◌, subst, arith, lit<}
 use Rattle.std.proofs.lemmas.Bool.{eqb-true, leb-true}
 use Rattle.vala_types.specs.declared.types.IntKind.{IntKind}
 use Rattle.vala_types.specs.declared.types.IntKind.TheVariants.{Int32}
 use Rattle.vala_types.specs.declared.types.Item.{Item}
 use Rattle.vala_types.specs.declared.types.Shape.{Shape}
-use Rattle.vala_types.specs.declared.types.Shape.TheVariants.{Void, Bool as Truth, Int, Text, Enum, Struct, Class, Interface, Delegate, Error, Array, Null, AsyncResult, ParamSpec}
+use Rattle.vala_types.specs.declared.types.Shape.TheVariants.{Int, Text, Enum, Struct, Class, Interface, Delegate, Error, Array, Null}
 use Rattle.vala_types.specs.declared.types.VType.{VType}
 use Rattle.vala_types.specs.declared.ties.Ties.{Ties}
 use Rattle.vala_types.specs.Ranks.{rank}

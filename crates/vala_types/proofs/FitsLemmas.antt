@@ -1,17 +1,15 @@
 -- The tests of fits are the table.
-use Rattle.std.proofs.Common.{◌≡◌, ℕ, ◌≤◌, ◌==◌, ◌||◌, nat_le, Bool, true, false, cond, Option, Some, None, ◌⊎◌, inl, inr, refl, sym, ap, ◌∙◌, subst, arith, rules}
-use Rattle.std.proofs.lemmas.Bool.{eq-eqb, eqb-true, le-leb, leb-true, cases_Bool}
+use Rattle.std.proofs.Common.{◌≡◌, ℕ, ◌==◌, ◌||◌, Bool, true, false, cond, Option, Some, None, refl, sym, ap, ◌∙◌, subst, arith}
+use Rattle.std.proofs.lemmas.Bool.{eq-eqb, eqb-true, le-leb, leb-true}
 use Rattle.std.specs.Bool.{Decides}
 use Rattle.vala_types.specs.declared.types.IntKind.{IntKind}
 use Rattle.vala_types.specs.declared.types.IntKind.TheVariants as kind
-use Rattle.vala_types.specs.declared.types.Item.{Item}
 use Rattle.vala_types.specs.declared.types.ItemShape.{ItemShape}
 use Rattle.vala_types.specs.declared.types.ItemShape.TheVariants as item
 use Rattle.vala_types.specs.declared.types.Shape.{Shape}
 use Rattle.vala_types.specs.declared.types.Shape.TheVariants.{Void, Bool as Truth, Int, Text, Enum, Struct, Class, Interface, Delegate, Error, Array, Null, AsyncResult, ParamSpec}
 use Rattle.vala_types.specs.declared.ties.Ties.{Ties}
 use Rattle.vala_types.specs.Ranks.{rank}
-use Rattle.vala_types.specs.Ties.{HasBase}
 use Rattle.vala_types.specs.Fits.{ShapeFits, same, same_items, integer, enum, null_text, null_class, null_interface, null_delegate, null_error, null_array, base, interface, object, domain}
 use Rattle.vala_types.specs.Tests.{has_base, int_goes, enum_goes, class_goes, interface_goes, same_option, error_goes, null_goes, same_item, shape_goes}
 use Rattle.vala_types.proofs.TiesLemmas.{decides_base}

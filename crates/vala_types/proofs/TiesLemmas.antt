@@ -1,13 +1,12 @@
 -- The walk over the bases, and that it finds every base.
-use Rattle.std.proofs.Common.{◌≡◌, ℕ, zero, suc, ◌+◌, ◌-◌, ◌<◌, ◌≤◌, ◌==◌, ◌||◌, Bool, true, false, cond, List, [], ◌∷◌, length, get_or, ◌⊎◌, inl, inr, refl, sym, ap, ◌∙◌, subst, arith, rules}
+use Rattle.std.proofs.Common.{◌≡◌, ℕ, zero, suc, ◌+◌, ◌<◌, ◌≤◌, ◌==◌, ◌||◌, Bool, true, false, cond, List, [], ◌∷◌, length, ◌⊎◌, inl, inr, refl, sym, ap, ◌∙◌, subst, arith}
 use Rattle.std.proofs.lemmas.Bool.{eq-eqb, eqb-true, cases_Bool, cases_lt}
-use Rattle.std.proofs.lemmas.Bool.Decides.{Decides-eqb}
 use Rattle.std.proofs.lemmas.List.{get_or_past}
 use Rattle.std.proofs.lemmas.List.Folds.{Any-from_list_any, list_any_at}
 use Rattle.std.proofs.Math.Bool.{or-true}
 use Rattle.std.proofs.Math.Nat.{zero-add, suc-add}
 use Rattle.std.specs.Bool.{Decides}
-use Rattle.std.specs.List.{Any, Contains, list_any}
+use Rattle.std.specs.List.{Any, list_any}
 use Rattle.vala_types.specs.declared.ties.Ties.{Ties}
 use Rattle.vala_types.specs.Ties.{bases_of, IsDirectBase, HasBase, direct, beyond, is_within}
 use Rattle.vala_types.specs.Tests.{has_base}
@@ -97,11 +96,11 @@ count_same p q more (suc n) h x low =
     let t : cond (p n) 1 0 ≤ cond (q n) 1 0 = cond_more (p n) (q n) (more n) in
     let u : count_to p n ≤ count_to q n = count_more p q more n in
     elim (cases_lt x n) [
-        inl below ↦ count_same p q more n (omega (arith, t, u)) x below
+      | inl below ↦ count_same p q more n (omega (arith, t, u)) x below
       | inr above ↦
-            let e : n ≡ x = omega arith in
-            let P : ℕ → Type 0 = λ m. q m ≡ p m in
-            subst P e (cond_same (p n) (q n) (more n) (omega (arith, t, u)))
+          let e : n ≡ x = omega arith in
+          let P : ℕ → Type 0 = λ m. q m ≡ p m in
+          subst P e (cond_same (p n) (q n) (more n) (omega (arith, t, u)))
     ]
 
 -- one step more leads nowhere else
@@ -119,7 +118,7 @@ settled_where_equal : (ties : Ties) (base k : ℕ) → reached ties base (suc k)
 unfolding reached
 settled_where_equal ties base k h a =
     elim (cases_lt a (length ties.rows)) [
-        inl low ↦ count_same (λ x. is_within ties k x base) (λ x. is_within ties (suc k) x base) (within_more ties base k) (length ties.rows) h a low
+      | inl low ↦ count_same (λ x. is_within ties k x base) (λ x. is_within ties (suc k) x base) (within_more ties base k) (length ties.rows) h a low
       | inr high ↦ none_past ties base (suc k) a high ∙ sym (none_past ties base k a high)
     ]
 
@@ -128,12 +127,12 @@ settled_or_many : (ties : Ties) (base k : ℕ) → IsSettled ties base k ⊎ (k 
 settled_or_many ties base zero = inr (omega arith)
 settled_or_many ties base (suc k) =
     elim (settled_or_many ties base k) [
-        inl s ↦ inl (settled_on ties base k s)
+      | inl s ↦ inl (settled_on ties base k s)
       | inr many ↦
-            elim (cases_lt (reached ties base k) (reached ties base (suc k))) [
-                inl more ↦ inr (omega arith)
-              | inr equal ↦ inl (settled_on ties base k (settled_where_equal ties base k equal))
-            ]
+          elim (cases_lt (reached ties base k) (reached ties base (suc k))) [
+            | inl more ↦ inr (omega arith)
+            | inr equal ↦ inl (settled_on ties base k (settled_where_equal ties base k equal))
+          ]
     ]
 
 reached_at_most : (ties : Ties) (base k : ℕ) → reached ties base k ≤ length ties.rows
@@ -143,10 +142,10 @@ reached_at_most ties base k = count_at_most (λ a. is_within ties k a base) (len
 settled_at_rows : (ties : Ties) (base : ℕ) → IsSettled ties base (length ties.rows)
 settled_at_rows ties base =
     elim (settled_or_many ties base (length ties.rows)) [
-        inl s ↦ s
+      | inl s ↦ s
       | inr many ↦
-            let h : reached ties base (suc (length ties.rows)) ≤ length ties.rows = reached_at_most ties base (suc (length ties.rows)) in
-            settled_where_equal ties base (length ties.rows) (omega (arith, many, h))
+          let h : reached ties base (suc (length ties.rows)) ≤ length ties.rows = reached_at_most ties base (suc (length ties.rows)) in
+          settled_where_equal ties base (length ties.rows) (omega (arith, many, h))
     ]
 
 -- what is settled stays so
@@ -189,12 +188,13 @@ chain_of ties (suc k) number base h =
     let next : ℕ = found.1 in
     let d : IsDirectBase ties number next = (found.0, found.2, found.3) in
     elim (cases_Bool (next == base)) [
-        inl same ↦ let P : ℕ → Type 0 = λ b. IsDirectBase ties number b in direct number base (subst P (eqb-true next base same) d)
+      | inl same ↦ let P : ℕ → Type 0 = λ b. IsDirectBase ties number b in direct number base (subst P (eqb-true next base same) d)
       | inr other ↦ beyond number next base d (chain_of ties k next base (sym (or_first (next == base) (is_within ties k next base) other) ∙ found.4))
     ]
 
 -- the walk over as many steps as there are rows decides whether there is a chain
 pub decides_base : (ties : Ties) (number base : ℕ) → Decides (has_base ties number base) (HasBase ties number base)
-decides_base ties number base =
-    ( chain_of ties (length ties.rows) number base
-    , λ h. let k : (k : ℕ) × (is_within ties k number base ≡ true) = some_steps ties number base h in within_rows ties base k.0 number k.1 )
+decides_base ties number base = (
+  chain_of ties (length ties.rows) number base,
+  λ h. let k : (k : ℕ) × (is_within ties k number base ≡ true) = some_steps ties number base h in within_rows ties base k.0 number k.1,
+)

@@ -1,5 +1,5 @@
 -- What the laws on types speak of.
-use Rattle.std.specs.Prelude.{◌≡◌, ℕ}
+use Rattle.std.specs.Prelude.{ℕ}
 use Rattle.vala_types.specs.declared.types.Shape.{Shape}
 use Rattle.vala_types.specs.declared.types.Shape.TheVariants.{Class, Interface}
 use Rattle.vala_types.specs.declared.ties.Ties.{Ties}

@@ -1,5 +1,5 @@
 -- Classes and interfaces, and what they are derived from.
-use Rattle.std.specs.Prelude.{◌≡◌, ℕ, zero, suc, ◌==◌, ◌||◌, Bool, true, false, List, [], slice_index_or}
+use Rattle.std.specs.Prelude.{ℕ, zero, suc, ◌==◌, ◌||◌, Bool, false, List, [], slice_index_or}
 use Rattle.std.specs.List.{Contains, list_any}
 use Rattle.vala_types.specs.declared.ties.Ties.{Ties}
 

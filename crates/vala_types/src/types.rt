@@ -65,9 +65,7 @@ pub enum Shape {
     Delegate(u32),
     /// An error of the domain with this number, or with none, `GLib.Error`, an error of any domain.
     Error(Option<u32>),
-    Array {
-        of: Item,
-    },
+    Array { of: Item },
     /// The shape of `null`.
     Null,
     /// What a finished async method hands to its callback.

@@ -1,4 +1,3 @@
-use Rattle.std.proofs.Common.{◌≡◌}
 use Rattle.vala_types.proofs.ChangesLaws.{owner_row, other_row}
 use Rattle.vala_types.proofs.owners.owner_change.Goals as goal
 
