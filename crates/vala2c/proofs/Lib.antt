@@ -1,2 +1,5 @@
 pub mod Names
 pub mod Calls
+pub mod Quiet
+pub mod Causes
+pub mod ToldCalls
