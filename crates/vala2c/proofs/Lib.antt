@@ -3,3 +3,4 @@ pub mod Calls
 pub mod Quiet
 pub mod Causes
 pub mod ToldCalls
+pub mod ToldFiles
