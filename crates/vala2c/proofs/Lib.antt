@@ -4,3 +4,4 @@ pub mod Quiet
 pub mod Causes
 pub mod ToldCalls
 pub mod ToldFiles
+pub mod Programs

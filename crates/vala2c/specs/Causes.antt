@@ -225,8 +225,8 @@ pub record RunsProgram (words : List (List ℕ)) (files : Files) (o o' e e' : Si
   pub ends : IsOfEnd k → ProgramEnds words files o o' e e' k
   -- whatever the status of a run is, nothing was printed that the program does not print
   pub prints : IsOfRun k → ProgramPrints words files o o'
-  -- so it is where memory ran out, if anything was printed
-  pub without_memory : k ≡ kind.Memory → (o' ≡ o) ⊎ ProgramPrints words files o o'
+  -- nor where memory ran out
+  pub only : (o' ≡ o) ⊎ ProgramPrints words files o o'
   -- the C never does what has no meaning
   pub defined : (u : UndefKind) → k ≢ kind.Undefined u
 

@@ -1,6 +1,7 @@
 use Rattle.vala2c.proofs.Causes.{causes}
 use Rattle.vala2c.proofs.ToldCalls.{told_calls}
 use Rattle.vala2c.proofs.ToldFiles.{told_files}
+use Rattle.vala2c.proofs.Programs.{program_told}
 use Rattle.vala2c.proofs.call.vala2c.Goals as goal
 
 pub returns-clause-causes : goal.returns-clause-causes
@@ -13,4 +14,4 @@ pub returns-clause-told_files : goal.returns-clause-told_files
 returns-clause-told_files g c = told_files _ _ _ _ _ _ _ _ c.one_call.ensures.call
 
 pub returns-clause-program : goal.returns-clause-program
-returns-clause-program g c = ?
+returns-clause-program g c = program_told _ _ _ _ _ _ _ _ c.one_call.ensures.call
