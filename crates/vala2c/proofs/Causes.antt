@@ -1,5 +1,5 @@
 -- What the status of a call tells of the words, the counts and the message line.
-use Rattle.std.proofs.Common.{◌≡◌, ◌≢◌, ℕ, ◌+◌, ◌-◌, ◌^◌, ◌≤◌, ◌<◌, min, List, [], ◌∷◌, ◌++◌, length, Option, Some, None, Result, Ok, Err, false, refl, sym, ap, ◌∙◌, subst, inl, inr, ◌⊎◌, arith, append-nil}
+use Rattle.std.proofs.Common.{◌≡◌, ◌≢◌, ℕ, ◌+◌, ◌-◌, ◌^◌, ◌≤◌, ◌<◌, min, List, [], ◌∷◌, ◌++◌, length, Some, Result, Ok, Err, refl, sym, ◌∙◌, subst, inl, inr, ◌⊎◌, arith}
 use Rattle.vg_base.specs.declared.outside.FolderFault.{FolderFault}
 use Rattle.vg_base.specs.declared.outside.FolderFault.TheVariants as fault
 use Rattle.vg_base.specs.declared.outside.Call.{Call}
@@ -16,16 +16,14 @@ use Rattle.vg_base.proofs.OutsideLaws.{takes_none, takes_both}
 use Rattle.vg_base.proofs.RunLaws.{begins_refl}
 use Rattle.c_reader.specs.Dialect.{Texts}
 use Rattle.c_reader.specs.CMeaning.{CRun}
-use Rattle.vala_compile.specs.declared.refusal.Refusal.{Refusal}
-use Rattle.vala_compile.specs.Program.{Breaks}
 use Rattle.vala2c.specs.declared.status.Kind.{Kind}
 use Rattle.vala2c.specs.declared.status.Kind.TheVariants as kind
 use Rattle.vala2c.specs.declared.status.Status.{Status}
 use Rattle.vala2c.specs.Words.{IsRun, c_file, world_of}
-use Rattle.vala2c.specs.Status.{line_of, exit_byte, kind_of_end, unheard}
+use Rattle.vala2c.specs.Status.{line_of, kind_of_end, unheard}
 use Rattle.vala2c.specs.Course.{Chain, TakesAll, TakesFront, Ran, IsPlanned, Course, Goes, Closes, Finishes, CallBy, IsCall, budget, prints_out, prints_err}
 use Rattle.vala2c.specs.Course as course
-use Rattle.vala2c.specs.Causes.{IsOutside, IsCFile, SpeaksOf, Says, IsOfRun, Causes, last_of}
+use Rattle.vala2c.specs.Causes.{IsOutside, SpeaksOf, Says, TakesLine, IsOfRun, Causes, last_of}
 use Rattle.vala2c.proofs.Quiet.{nothing_on_err}
 
 -- 1. Counts
@@ -49,13 +47,9 @@ unheard_same : (k : Kind) (named source : List ℕ) (n : ℕ) → n < length (li
 unheard_same (kind.Ended code) named source n h = absurd (omega arith)
 unheard_same k named source n h = refl
 
--- the line was put, or a put was refused
-abbrev pub Heard : List ℕ → SinkView → SinkView → Type 0
-Heard line e e' = Takes e line e' ⊎ Rose e.faults e'.faults
-
 -- The status is the answer, and its line was put unless a put was refused; or memory ran out.
 abbrev pub Told : Kind → List ℕ → List ℕ → SinkView → SinkView → Kind → Type 0
-Told answer named source e e' k = ((k ≡ answer) × Heard (line_of answer named source) e e') ⊎ (k ≡ kind.Memory)
+Told answer named source e e' k = ((k ≡ answer) × TakesLine (line_of answer named source) e e') ⊎ (k ≡ kind.Memory)
 
 closed : (spoken : Kind) (named source line : List ℕ) (e e' : SinkView) (k : Kind) → line ≡ line_of spoken named source → Closes line spoken e e' k → Told spoken named source e e' k
 closed spoken named source line e e' k is (course.put t) = inl (refl, inl (subst (λ l. Takes e l e') is t.0))
@@ -222,18 +216,18 @@ abbrev pub LastIs : List Call → Call → Type 0
 LastIs calls call = (last_of calls ≡ Some call) × (last_of (entries calls) ≡ Some call)
 
 -- what the last call and the status tell of each other
-pub record FaultsSo (calls : List Call) (k : Kind) : Type 0 where
-  pub no_file : k ≡ kind.NoFile → (name : List ℕ) × LastIs calls (Read name (Err fault.Missing))
-  pub read_fault : k ≡ kind.ReadFault → (name : List ℕ) × LastIs calls (Read name (Err fault.Failed))
-  pub write_fault : k ≡ kind.WriteFault → (name : List ℕ) × (bytes : List ℕ) × LastIs calls (Write name bytes (Err fault.Failed))
+pub record FaultsSo (calls : List Call) (k : Kind) (named : List ℕ) : Type 0 where
+  pub no_file : k ≡ kind.NoFile → LastIs calls (Read named (Err fault.Missing))
+  pub read_fault : k ≡ kind.ReadFault → LastIs calls (Read named (Err fault.Failed))
+  pub write_fault : k ≡ kind.WriteFault → (bytes : List ℕ) × LastIs calls (Write named bytes (Err fault.Failed))
   pub if_missing : (name : List ℕ) → last_of (entries calls) ≡ Some (Read name (Err fault.Missing)) → (k ≡ kind.NoFile) ⊎ (k ≡ kind.Memory)
   pub if_unread : (name : List ℕ) → last_of (entries calls) ≡ Some (Read name (Err fault.Failed)) → (k ≡ kind.ReadFault) ⊎ (k ≡ kind.Memory)
   pub if_unwritten : (name bytes : List ℕ) → last_of (entries calls) ≡ Some (Write name bytes (Err fault.Failed)) → (k ≡ kind.WriteFault) ⊎ (k ≡ kind.Memory)
 
-last_missing : (calls : List Call) (name : List ℕ) → LastIs calls (Read name (Err fault.Missing)) → FaultsSo calls kind.NoFile
+last_missing : (calls : List Call) (name : List ℕ) → LastIs calls (Read name (Err fault.Missing)) → FaultsSo calls kind.NoFile name
 last_missing calls name l =
     record {
-      no_file = λ h. (name, l);
+      no_file = λ h. l;
       read_fault = λ h. cc;
       write_fault = λ h. cc;
       if_missing = λ other e. inl refl;
@@ -241,30 +235,30 @@ last_missing calls name l =
       if_unwritten = λ other bytes e. cc;
     }
 
-last_unread : (calls : List Call) (name : List ℕ) → LastIs calls (Read name (Err fault.Failed)) → FaultsSo calls kind.ReadFault
+last_unread : (calls : List Call) (name : List ℕ) → LastIs calls (Read name (Err fault.Failed)) → FaultsSo calls kind.ReadFault name
 last_unread calls name l =
     record {
       no_file = λ h. cc;
-      read_fault = λ h. (name, l);
+      read_fault = λ h. l;
       write_fault = λ h. cc;
       if_missing = λ other e. cc;
       if_unread = λ other e. inl refl;
       if_unwritten = λ other bytes e. cc;
     }
 
-last_unwritten : (calls : List Call) (name bytes : List ℕ) → LastIs calls (Write name bytes (Err fault.Failed)) → FaultsSo calls kind.WriteFault
+last_unwritten : (calls : List Call) (name bytes : List ℕ) → LastIs calls (Write name bytes (Err fault.Failed)) → FaultsSo calls kind.WriteFault name
 last_unwritten calls name bytes l =
     record {
       no_file = λ h. cc;
       read_fault = λ h. cc;
-      write_fault = λ h. (name, bytes, l);
+      write_fault = λ h. (bytes, l);
       if_missing = λ other e. cc;
       if_unread = λ other e. cc;
       if_unwritten = λ other bytes e. inl refl;
     }
 
-last_read : (calls : List Call) (name bytes : List ℕ) (k : Kind) → last_of (entries calls) ≡ Some (Read name (Ok bytes)) → k ≢ kind.NoFile → k ≢ kind.ReadFault → k ≢ kind.WriteFault → FaultsSo calls k
-last_read calls name bytes k l a b c =
+last_read : (calls : List Call) (name bytes named : List ℕ) (k : Kind) → last_of (entries calls) ≡ Some (Read name (Ok bytes)) → k ≢ kind.NoFile → k ≢ kind.ReadFault → k ≢ kind.WriteFault → FaultsSo calls k named
+last_read calls name bytes named k l a b c =
     record {
       no_file = λ h. absurd (a h);
       read_fault = λ h. absurd (b h);
@@ -274,8 +268,8 @@ last_read calls name bytes k l a b c =
       if_unwritten = λ other bytes e. cc;
     }
 
-without_memory : (calls : List Call) → FaultsSo calls kind.Memory
-without_memory calls =
+without_memory : (calls : List Call) (named : List ℕ) → FaultsSo calls kind.Memory named
+without_memory calls named =
     record {
       no_file = λ h. cc;
       read_fault = λ h. cc;
@@ -285,8 +279,8 @@ without_memory calls =
       if_unwritten = λ other bytes e. inr refl;
     }
 
-without_calls : FaultsSo [] kind.Usage
-without_calls =
+without_calls : (named : List ℕ) → FaultsSo [] kind.Usage named
+without_calls named =
     record {
       no_file = λ h. cc;
       read_fault = λ h. cc;
@@ -301,20 +295,20 @@ pub not_of_run : (k l : Kind) → IsOfRun k ⊎ (k ≡ kind.Memory) → (IsOfRun
 not_of_run k l (inl r) a b h = a (subst IsOfRun h r)
 not_of_run k l (inr m) a b h = b (sym h ∙ m)
 
-ran_faults : (calls : List Call) (name bytes : List ℕ) (k : Kind) → last_of (entries calls) ≡ Some (Read name (Ok bytes)) → IsOfRun k ⊎ (k ≡ kind.Memory) → FaultsSo calls k
-ran_faults calls name bytes k l r =
-    last_read calls name bytes k l (not_of_run k kind.NoFile r (λ x. x) (λ h. cc)) (not_of_run k kind.ReadFault r (λ x. x) (λ h. cc)) (not_of_run k kind.WriteFault r (λ x. x) (λ h. cc))
+ran_faults : (calls : List Call) (name bytes named : List ℕ) (k : Kind) → last_of (entries calls) ≡ Some (Read name (Ok bytes)) → IsOfRun k ⊎ (k ≡ kind.Memory) → FaultsSo calls k named
+ran_faults calls name bytes named k l r =
+    last_read calls name bytes named k l (not_of_run k kind.NoFile r (λ x. x) (λ h. cc)) (not_of_run k kind.ReadFault r (λ x. x) (λ h. cc)) (not_of_run k kind.WriteFault r (λ x. x) (λ h. cc))
 
-pub course_faults : (file : List ℕ) (o e : SinkView) (calls : List Call) (o' e' : SinkView) (k : Kind) (named source : List ℕ) → Course file o e calls o' e' k named source → FaultsSo calls k
+pub course_faults : (file : List ℕ) (o e : SinkView) (calls : List Call) (o' e' : SinkView) (k : Kind) (named source : List ℕ) → Course file o e calls o' e' k named source → FaultsSo calls k named
 course_faults file o e calls o' e' k named source course.no_file = last_missing _ file (refl, refl)
 course_faults file o e calls o' e' k named source course.unread = last_unread _ file (refl, refl)
-course_faults file o e calls o' e' k named source (course.refused s r rest b) = last_read _ file s (kind.Refused r) refl (λ h. cc) (λ h. cc) (λ h. cc)
+course_faults file o e calls o' e' k named source (course.refused s r rest b) = last_read _ file s named (kind.Refused r) refl (λ h. cc) (λ h. cc) (λ h. cc)
 course_faults file o e calls o' e' k named source (course.unwritten s c h) = last_unwritten _ (c_file file) c (refl, refl)
 course_faults file o e calls o' e' k named source (course.gone s c h) = last_missing _ (c_file file) (refl, refl)
 course_faults file o e calls o' e' k named source (course.unread_back s c h) = last_unread _ (c_file file) (refl, refl)
-course_faults file o e calls o' e' k named source (course.c_refused s c b r h a) = last_read _ (c_file file) b (kind.CRefused r) refl (λ h. cc) (λ h. cc) (λ h. cc)
-course_faults file o e calls o' e' k named source (course.ran s c b unit p q l n t h a r) = ran_faults _ (c_file file) b k refl (ran_so unit (world_of file) o o' e e' k r).is_of_run
-course_faults file o e calls o' e' k named source (course.memory cs n s p) = without_memory cs
+course_faults file o e calls o' e' k named source (course.c_refused s c b r h a) = last_read _ (c_file file) b named (kind.CRefused r) refl (λ h. cc) (λ h. cc) (λ h. cc)
+course_faults file o e calls o' e' k named source (course.ran s c b unit p q l n t h a r) = ran_faults _ (c_file file) b named k refl (ran_so unit (world_of file) o o' e e' k r).is_of_run
+course_faults file o e calls o' e' k named source (course.memory cs n s p) = without_memory cs named
 
 not_usage : (k : Kind) → IsOfRun k ⊎ (k ≡ kind.Memory) → k ≢ kind.Usage
 not_usage k r = not_of_run k kind.Usage r (λ x. x) (λ h. cc)
@@ -338,7 +332,7 @@ one_file words a b p q = cc (sym p.words_are ∙ q.words_are)
 pub record CallSo (words : List (List ℕ)) (o e : SinkView) (calls : List Call) (o' e' : SinkView) (k : Kind) (named source : List ℕ) : Type 0 where
   pub sinks : SinksSo o o' e e' k
   pub speaks : SpeaksOf words k named source
-  pub faults : FaultsSo calls k
+  pub faults : FaultsSo calls k named
   pub planned : (file : List ℕ) → IsRun words file → IsPlanned file calls
   pub usage : k ≡ kind.Usage → IsOutside words × (calls ≡ [])
   pub outside : IsOutside words → ((k ≡ kind.Usage) ⊎ (k ≡ kind.Memory)) × (calls ≡ [])
@@ -348,7 +342,7 @@ call_so words o e calls o' e' k named source (course.usage n s none) =
     record {
       sinks = untouched o e kind.Usage (λ h. cc);
       speaks = tt;
-      faults = without_calls;
+      faults = without_calls named;
       planned = λ file is. course.none;
       usage = λ h. (none, refl);
       outside = λ h. (inl refl, refl);
@@ -357,7 +351,7 @@ call_so words o e calls o' e' k named source (course.memory n s) =
     record {
       sinks = untouched o e kind.Memory memory_no_fault;
       speaks = tt;
-      faults = without_memory [];
+      faults = without_memory [] named;
       planned = λ file is. course.none;
       usage = λ h. cc;
       outside = λ h. (inr refl, refl);
@@ -445,6 +439,13 @@ silent_so : (answer : Kind) (named source : List ℕ) (o o' e mid e' : SinkView)
 silent_so answer named source o o' e mid e' k s (inl t) a b = s.silent (λ r. a (subst IsOfRun (sym t.0) r)) (λ m. b (t.0 ∙ m))
 silent_so answer named source o o' e mid e' k s (inr m) a b = absurd (b m)
 
+-- the message line of an answer that is no want of memory
+pub line_so : (answer : Kind) (named source : List ℕ) (e mid e' : SinkView) (k l : Kind) → e.faults ≤ mid.faults → Takes e [] mid → Told answer named source mid e' k → k ≡ l → l ≢ kind.Memory → TakesLine (line_of l named source) e e'
+line_so answer named source e mid e' k l le nothing (inl (is, inl put)) e2 not =
+    inl (subst (λ a. Takes e (line_of a named source) e') (sym is ∙ e2) (takes_both e mid e' [] (line_of answer named source) nothing put))
+line_so answer named source e mid e' k l le nothing (inl (is, inr rose)) e2 not = inr (rose_before e.faults mid.faults e'.faults le rose)
+line_so answer named source e mid e' k l le nothing (inr m) e2 not = absurd (not (sym e2 ∙ m))
+
 pub causes : (words : List (List ℕ)) (f f' : FolderView) (o o' e e' : SinkView) (status : Status) → IsCall words f f' o o' e e' status → Causes words f f' o o' e e' status
 causes words f f' o o' e e' status call =
     let so = call_so words o e call.calls o' call.middle call.answer call.named call.source call.goes in
@@ -456,9 +457,9 @@ causes words f f' o o' e e' status call =
       code = call.finishes.code;
       usage = λ h. (so.usage (was kind.Usage end h (λ x. cc))).0;
       outside = λ h. in_status call.answer call.named call.source call.middle e' status.kind kind.Usage end (so.outside h).0;
-      no_file = λ h. (let l = so.faults.no_file (was kind.NoFile end h (λ x. cc)) in chain_raises f call.calls f' _ call.chain l.1.0);
-      read_fault = λ h. (let l = so.faults.read_fault (was kind.ReadFault end h (λ x. cc)) in chain_raises f call.calls f' _ call.chain l.1.0);
-      write_fault = λ h. (let l = so.faults.write_fault (was kind.WriteFault end h (λ x. cc)) in chain_raises f call.calls f' _ call.chain l.2.0);
+      no_file = λ h. (let l = so.faults.no_file (was kind.NoFile end h (λ x. cc)) in chain_raises f call.calls f' _ call.chain l.0);
+      read_fault = λ h. (let l = so.faults.read_fault (was kind.ReadFault end h (λ x. cc)) in chain_raises f call.calls f' _ call.chain l.0);
+      write_fault = λ h. (let l = so.faults.write_fault (was kind.WriteFault end h (λ x. cc)) in chain_raises f call.calls f' _ call.chain l.1.0);
       out_fault = λ h. out_or_err o o' e call.middle e' later (so.sinks.fault (was kind.OutFault end h (λ x. cc)));
       misses = counts.1;
       faults = counts.0;

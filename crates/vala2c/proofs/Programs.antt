@@ -1,9 +1,7 @@
 -- The program of the file runs: from the theorem on the compiler to what is seen of a call.
-use Rattle.std.proofs.Common.{◌≡◌, ◌≢◌, ℕ, ◌+◌, ◌-◌, ◌≤◌, ◌<◌, List, [], ◌∷◌, ◌++◌, length, Option, Some, None, Result, Ok, Err, false, refl, sym, ap, ◌∙◌, subst, inl, inr, ◌⊎◌, arith, append-nil, length-append}
+use Rattle.std.proofs.Common.{◌≡◌, ◌≢◌, ℕ, ◌+◌, ◌-◌, ◌≤◌, List, [], ◌∷◌, ◌++◌, length, Some, Ok, false, refl, sym, ap, ◌∙◌, subst, inl, inr, ◌⊎◌, arith, append-nil, length-append}
 use Rattle.std.proofs.lemmas.Bool.{cases_lt}
-use Rattle.vg_base.specs.declared.outside.FolderFault.TheVariants as fault
 use Rattle.vg_base.specs.declared.outside.Call.{Call}
-use Rattle.vg_base.specs.declared.event.Event.{Event}
 use Rattle.vg_base.specs.declared.event.Stream.{Stream}
 use Rattle.vg_base.specs.declared.event.Stream.TheVariants as stream
 use Rattle.vg_base.specs.declared.event.UndefKind.{UndefKind}
@@ -16,16 +14,15 @@ use Rattle.vg_base.specs.Outside.{Files, FolderView, SinkView, Takes, Rose}
 use Rattle.vg_base.specs.Machine.{Machine, moves, said}
 use Rattle.vg_base.specs.Run.{Begins}
 use Rattle.vg_base.specs.World.{World, IsWorld, Mates}
-use Rattle.vg_base.specs.Headline.{Said, Headline, events, printed}
+use Rattle.vg_base.specs.Headline.{Headline, events, printed}
 use Rattle.vg_base.proofs.OutsideLaws.{takes_both}
-use Rattle.vg_base.proofs.MachineLaws.{moves_ended, said_ended, said_add}
+use Rattle.vg_base.proofs.MachineLaws.{said_ended, said_add}
 use Rattle.vg_base.proofs.RunLaws.{begins_trans, cut_begins}
 use Rattle.vg_base.proofs.HeadlineLaws.{printed_append}
 use Rattle.c_reader.specs.Dialect.{Texts, Answers, CReads}
 use Rattle.c_reader.specs.Dialect as reading
 use Rattle.c_reader.specs.CMeaning.{CRun, c_meaning, c_opening}
 use Rattle.c_reader.proofs.Reading.{one_unit}
-use Rattle.vala_compile.specs.declared.refusal.Refusal.{Refusal}
 use Rattle.vala_compile.specs.Program.{Program, Reads}
 use Rattle.vala_compile.specs.VMeaning.{VRun}
 use Rattle.vala_compile.specs.Correct.{IsCompiled}
@@ -37,10 +34,9 @@ use Rattle.vala2c.specs.Words.{IsRun, c_file, world_of}
 use Rattle.vala2c.specs.Status.{line_of, kind_of_end}
 use Rattle.vala2c.specs.Course.{Chain, TakesAll, TakesFront, Ran, Course, Goes, IsCall, budget, prints_out}
 use Rattle.vala2c.specs.Course as course
-use Rattle.vala2c.specs.Causes.{IsOfRun, IsOfEnd, IsSource, IsProgramOf, kind_of_program_end, ProgramEnds, ProgramPrints, RunsProgram, ProgramTold}
+use Rattle.vala2c.specs.Causes.{TakesLine, IsOfRun, IsOfEnd, IsProgramOf, kind_of_program_end, ProgramEnds, ProgramPrints, RunsProgram, ProgramTold}
 use Rattle.vala2c.proofs.Names.{name_is}
-use Rattle.vala2c.proofs.Causes.{RanSo, ran_so, Told, Heard, told, call_so, rose_before}
-use Rattle.vala2c.proofs.ToldCalls.{run_answered}
+use Rattle.vala2c.proofs.Causes.{ran_so, Told, told, call_so, rose_before}
 use Rattle.vala2c.proofs.ToldFiles.{After, all_three, one_content}
 
 -- 1. Two runs that meet
@@ -283,11 +279,11 @@ goes_program words files f g o e calls o' e' k named source told chain (course.r
 
 -- 6. The clause
 
-line_heard : (printed_err line line' : List ℕ) (e mid e' : SinkView) → line ≡ line' → e.faults ≤ mid.faults → Takes e printed_err mid → Heard line mid e' → Takes e (printed_err ++ line') e' ⊎ Rose e.faults e'.faults
+line_heard : (printed_err line line' : List ℕ) (e mid e' : SinkView) → line ≡ line' → e.faults ≤ mid.faults → Takes e printed_err mid → TakesLine line mid e' → Takes e (printed_err ++ line') e' ⊎ Rose e.faults e'.faults
 line_heard printed_err line line' e mid e' same le took (inl put) = inl (subst (λ l. Takes e (printed_err ++ l) e') same (takes_both e mid e' printed_err line took put))
 line_heard printed_err line line' e mid e' same le took (inr rose) = inr (rose_before e.faults mid.faults e'.faults le rose)
 
-ends_behind : (words : List (List ℕ)) (files : Files) (o o' e mid e' : SinkView) (k : Kind) (named source : List ℕ) → IsOfEnd k → e.faults ≤ mid.faults → EndsBefore words files o o' e mid k → Heard (line_of k named source) mid e' → ProgramEnds words files o o' e e' k
+ends_behind : (words : List (List ℕ)) (files : Files) (o o' e mid e' : SinkView) (k : Kind) (named source : List ℕ) → IsOfEnd k → e.faults ≤ mid.faults → EndsBefore words files o o' e mid k → TakesLine (line_of k named source) mid e' → ProgramEnds words files o o' e e' k
 ends_behind words files o o' e mid e' k named source is le x heard =
     record {
       file = x.file;
@@ -304,7 +300,7 @@ ends_behind words files o o' e mid e' k named source is le x heard =
 finished : (words : List (List ℕ)) (files : Files) (o o' e mid e' : SinkView) (answer k : Kind) (named source : List ℕ) → e.faults ≤ mid.faults → ProgramSo words files o o' e mid answer → Told answer named source mid e' k → RunsProgram words files o o' e e' k
 finished words files o o' e mid e' answer k named source le so (inl t) =
     let here : ProgramSo words files o o' e mid k = subst (ProgramSo words files o o' e mid) (sym t.0) so in
-    let heard : Heard (line_of k named source) mid e' = subst (λ a. Heard (line_of a named source) mid e') (sym t.0) t.1 in
+    let heard : TakesLine (line_of k named source) mid e' = subst (λ a. TakesLine (line_of a named source) mid e') (sym t.0) t.1 in
     record {
       ends = λ h. ends_behind words files o o' e mid e' k named source h le (here.ends h) heard;
       prints = here.prints;
@@ -322,7 +318,7 @@ finished words files o o' e mid e' answer k named source le so (inr m) =
 pub program_told : (words : List (List ℕ)) (f f' : FolderView) (o o' e e' : SinkView) (status : Status) → IsCall words f f' o o' e e' status → ProgramTold words f o o' e e' status.kind
 program_told words f f' o o' e e' status call =
     λ files is.
-        let so = call_so words o e call.calls o' call.middle call.answer call.named call.source call.goes in
-        finished words files o o' e call.middle e' call.answer status.kind call.named call.source so.sinks.err_faults
-        (goes_program words files f f' o e call.calls o' call.middle call.answer call.named call.source is call.chain call.goes)
-        (told call.answer call.named call.source call.middle e' status call.finishes)
+    let so = call_so words o e call.calls o' call.middle call.answer call.named call.source call.goes in
+    finished words files o o' e call.middle e' call.answer status.kind call.named call.source so.sinks.err_faults
+    (goes_program words files f f' o e call.calls o' call.middle call.answer call.named call.source is call.chain call.goes)
+    (told call.answer call.named call.source call.middle e' status call.finishes)

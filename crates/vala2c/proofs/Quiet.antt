@@ -1,10 +1,10 @@
 -- A unit prints nothing on err.
-use Rattle.std.proofs.Common.{◌≡◌, ℕ, zero, suc, List, [], ◌∷◌, ◌++◌, Option, Some, None, refl, sym, ap, ◌∙◌}
+use Rattle.std.proofs.Common.{◌≡◌, ℕ, zero, suc, List, [], ◌∷◌, ◌++◌, Option, Some, None, refl, ap, ◌∙◌}
 use Rattle.vg_base.specs.declared.event.CEnd.{CEnd}
 use Rattle.vg_base.specs.declared.event.Stream.TheVariants.{Err}
-use Rattle.vg_base.specs.Machine.{unless_ended, move, moves, said}
+use Rattle.vg_base.specs.Machine.{unless_ended, move, said}
 use Rattle.vg_base.specs.World.{World}
-use Rattle.vg_base.specs.Headline.{events, printed}
+use Rattle.vg_base.specs.Headline.{printed}
 use Rattle.vg_base.specs.Laws.{printed_by}
 use Rattle.vg_base.proofs.HeadlineLaws.{printed_by_append}
 use Rattle.c_reader.specs.Dialect.{Texts}

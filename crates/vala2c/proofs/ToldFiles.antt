@@ -1,11 +1,11 @@
 -- The files of a folder that tells them.
-use Rattle.std.proofs.Common.{◌≡◌, ◌≢◌, ℕ, ◌≤◌, ◌<◌, List, [], ◌∷◌, ◌++◌, length, Option, Some, None, Result, Ok, Err, false, refl, sym, ap, ◌∙◌, subst, inl, inr, ◌⊎◌, arith}
+use Rattle.std.proofs.Common.{◌≡◌, ◌≢◌, ℕ, ◌<◌, List, [], ◌∷◌, length, Option, Some, None, Result, Ok, Err, false, refl, sym, ap, ◌∙◌, subst, inl, inr, ◌⊎◌, arith}
 use Rattle.std.specs.Prelude.{IfSome}
 use Rattle.vg_base.specs.declared.outside.FolderFault.{FolderFault}
 use Rattle.vg_base.specs.declared.outside.FolderFault.TheVariants as fault
 use Rattle.vg_base.specs.declared.outside.Call.{Call}
 use Rattle.vg_base.specs.declared.outside.Call.TheVariants.{Read, Write}
-use Rattle.vg_base.specs.Outside.{Files, FolderView, SinkView, IsAnswer, IsRead, IsWrite, Writes, WritesTold}
+use Rattle.vg_base.specs.Outside.{Files, FolderView, SinkView, AddsCalls, IsAnswer, IsRead, IsWrite, Writes, WritesTold}
 use Rattle.c_reader.specs.declared.refusal.CRefusal.{CRefusal}
 use Rattle.c_reader.specs.Dialect.{Texts, Answers, CReads}
 use Rattle.c_reader.specs.Dialect as reading
@@ -18,9 +18,9 @@ use Rattle.vala2c.specs.declared.status.Status.{Status}
 use Rattle.vala2c.specs.Words.{IsRun, c_file, world_of}
 use Rattle.vala2c.specs.Course.{Chain, IsPlanned, Course, Goes, IsCall}
 use Rattle.vala2c.specs.Course as course
-use Rattle.vala2c.specs.Causes.{IsOutside, IsCFile, IsOfRun, WritesNothing, IsSource, HoldsC, RefusedUnless, ToldFiles, FilesTold}
-use Rattle.vala2c.proofs.Causes.{ran_so, not_of_run, one_file, told, Told, answered, in_status, course_planned}
-use Rattle.vala2c.proofs.ToldCalls.{unbroken, one_refusal, run_answered}
+use Rattle.vala2c.specs.Causes.{IsOutside, IsOfRun, WritesNothing, RefusedUnless, ToldFiles, FilesTold}
+use Rattle.vala2c.proofs.Causes.{ran_so, not_of_run, one_file, told, Told, answered, course_planned, entries, call_so}
+use Rattle.vala2c.proofs.ToldCalls.{unbroken, one_refusal, run_answered, chain_told, entries_planned}
 
 -- 1. One call after another
 
@@ -103,6 +103,71 @@ planned_files file f g calls files course.none is chain = (files, subst (λ x. A
 planned_files file f g calls files (course.source a) is chain = (files, (read_alone f g files file a is chain).0, λ name other. refl)
 planned_files file f g calls files (course.written s c a h) is chain = let w = read_and_write f g files file s c a is chain in (w.after, w.told, w.writes.others)
 planned_files file f g calls files (course.back s c a h) is chain = let w = all_three f g files file s c a is chain in (w.after, w.told, w.others)
+
+-- What the entries say of the files: the first of a plan is a read, and the second a write.
+pub record EntriesSo (files after : Files) (added : List Call) : Type 0 where
+  pub read : (name bytes : List ℕ) (more : List Call) → added ≡ Read name (Ok bytes) ∷ more → files name ≡ Some bytes
+  pub wrote : (first : Call) (name bytes : List ℕ) (more : List Call) → added ≡ first ∷ Write name bytes (Ok tt) ∷ more → after name ≡ Some bytes
+
+same_read : (files : Files) (file source name bytes : List ℕ) (calls more : List Call) → files file ≡ Some source → Read file (Ok source) ∷ calls ≡ Read name (Ok bytes) ∷ more → files name ≡ Some bytes
+same_read files file source name bytes calls more holds e =
+    let n : file ≡ name = cc in
+    let b : source ≡ bytes = cc in
+    ap files (sym n) ∙ holds ∙ ap Some b
+
+same_write : (after : Files) (target c name bytes : List ℕ) (one first : Call) (calls more : List Call) → after target ≡ Some c → one ∷ Write target c (Ok tt) ∷ calls ≡ first ∷ Write name bytes (Ok tt) ∷ more → after name ≡ Some bytes
+same_write after target c name bytes one first calls more holds e =
+    let n : target ≡ name = cc in
+    let b : c ≡ bytes = cc in
+    ap after (sym n) ∙ holds ∙ ap Some b
+
+no_entry : (files after : Files) → EntriesSo files after []
+no_entry files after = record { read = λ name bytes more e. cc; wrote = λ first name bytes more e. cc }
+
+-- the source was read, and no write was answered Ok
+source_entry : (files after : Files) (file source : List ℕ) → files file ≡ Some source → EntriesSo files after (Read file (Ok source) ∷ [])
+source_entry files after file source holds =
+    record { read = λ name bytes more e. same_read files file source name bytes [] more holds e; wrote = λ first name bytes more e. cc }
+
+unwritten_entry : (files after : Files) (file source target c : List ℕ) (x : FolderFault) → files file ≡ Some source → EntriesSo files after (Read file (Ok source) ∷ Write target c (Err x) ∷ [])
+unwritten_entry files after file source target c x holds =
+    record { read = λ name bytes more e. same_read files file source name bytes _ more holds e; wrote = λ first name bytes more e. cc }
+
+unread_entry : (files after : Files) (file : List ℕ) (x : FolderFault) → EntriesSo files after (Read file (Err x) ∷ [])
+unread_entry files after file x = record { read = λ name bytes more e. cc; wrote = λ first name bytes more e. cc }
+
+both_entries : (files after : Files) (file source target c : List ℕ) (calls : List Call) → files file ≡ Some source → after target ≡ Some c → EntriesSo files after (Read file (Ok source) ∷ Write target c (Ok tt) ∷ calls)
+both_entries files after file source target c calls holds there =
+    record {
+      read = λ name bytes more e. same_read files file source name bytes _ more holds e;
+      wrote = λ first name bytes more e. same_write after target c name bytes _ first calls more there e;
+    }
+
+read_entries : (files after : Files) (file : List ℕ) (a : Result (List ℕ) FolderFault) → IsAnswer files file a → EntriesSo files after (entries (Read file a ∷ []))
+read_entries files after file (Ok s) holds = source_entry files after file s holds
+read_entries files after file (Err fault.Missing) holds = unread_entry files after file fault.Missing
+read_entries files after file (Err fault.Failed) holds = unread_entry files after file fault.Failed
+read_entries files after file (Err fault.Memory) holds = no_entry files after
+
+write_entries : (files after : Files) (file source target c : List ℕ) (a : Result (Unit {0}) FolderFault) → files file ≡ Some source → (a ≡ Ok tt → after target ≡ Some c) → EntriesSo files after (entries (Read file (Ok source) ∷ Write target c a ∷ []))
+write_entries files after file source target c (Ok x) holds there = both_entries files after file source target c [] holds (there refl)
+write_entries files after file source target c (Err fault.Missing) holds there = unwritten_entry files after file source target c fault.Missing holds
+write_entries files after file source target c (Err fault.Failed) holds there = unwritten_entry files after file source target c fault.Failed holds
+write_entries files after file source target c (Err fault.Memory) holds there = source_entry files after file source holds
+
+-- the files behind calls are one function
+one_after : (o : Option Files) (a b : Files) (name : List ℕ) → o ≡ Some a → o ≡ Some b → b name ≡ a name
+one_after o a b name e h = let same : b ≡ a = cc in ap (λ (files : Files). files name) same
+
+pub planned_entries : (file : List ℕ) (f g : FolderView) (calls : List Call) (files after : Files) → IsPlanned file calls → After f files → Chain f calls g → After g after → EntriesSo files after (entries calls)
+planned_entries file f g calls files after course.none is chain there = no_entry files after
+planned_entries file f g calls files after (course.source a) is chain there = read_entries files after file a (read_alone f g files file a is chain).1
+planned_entries file f g calls files after (course.written s c a h) is chain there =
+    let w = read_and_write f g files file s c a is chain in
+    write_entries files after file s (c_file file) c a w.holds (λ ok. one_after g.files w.after after (c_file file) w.told there ∙ w.writes.written ok)
+planned_entries file f g calls files after (course.back s c a h) is chain there =
+    let w = all_three f g files file s c a is chain in
+    both_entries files after file s (c_file file) c _ w.holds (one_after g.files w.after after (c_file file) w.told there ∙ w.written)
 
 -- 3. What is read back is what was written
 
@@ -226,8 +291,10 @@ unwritten file source c files after g is others holds h =
   where
     differ : (r : CRefusal) → kind.WriteFault ≡ kind.CRefused r → ⊥
     differ r e = cc
+
     not_missing : kind.WriteFault ≡ kind.NoFile → ⊥
     not_missing e = cc
+
     not_refused : (r : Refusal) → kind.WriteFault ≡ kind.Refused r → ⊥
     not_refused r e = cc
 
@@ -290,18 +357,30 @@ nothing_answered : (answer : Kind) (named source : List ℕ) (e e' : SinkView) (
 nothing_answered answer named source e e' k (inl t) r = subst WritesNothing t.0 r
 nothing_answered answer named source e e' k (inr m) r = absurd (subst WritesNothing m r)
 
-file_told : (words : List (List ℕ)) (file : List ℕ) (files : Files) (g : FolderView) (answer : Kind) (named source : List ℕ) (e e' : SinkView) (status : Status) → IsRun words file → FilesSo file files g answer → Told answer named source e e' status.kind → ToldFiles words files g status
-file_told words file files g answer named source e e' status is s end =
+-- what a call says of the entries and the files behind it
+pub record EntriesTold (words : List (List ℕ)) (files : Files) (f g : FolderView) : Type 0 where
+  pub added : List Call
+  pub told_calls : AddsCalls f added g
+  pub entries_so : (after : Files) → After g after → EntriesSo files after added
+  pub planned : (file : List ℕ) → IsRun words file → IsPlanned file added
+
+file_told : (words : List (List ℕ)) (file : List ℕ) (files : Files) (f g : FolderView) (answer : Kind) (named source : List ℕ) (e e' : SinkView) (status : Status) → IsRun words file → EntriesTold words files f g → FilesSo file files g answer → Told answer named source e e' status.kind → ToldFiles words files f g status
+file_told words file files f g answer named source e e' status is t s end =
     let was = answered answer named source e e' status.kind in
     record {
       after = s.after;
       told = s.told;
+      added = t.added;
+      told_calls = t.told_calls;
+      read = (t.entries_so s.after s.told).read;
+      wrote = (t.entries_so s.after s.told).wrote;
+      planned = t.planned;
       others = λ name other. s.others name (λ h. other (file, is, h));
       same = λ h. s.same (nothing_answered answer named source e e' status.kind end h);
       written = λ h. (
-        let w = s.written (run_answered answer named source e e' status.kind end h) in
-        record { file = file; source = w.0; is_source = record { is_run = is; holds = w.2 }; c = w.1; compiled = w.3; holds = w.4 }
-      );
+          let w = s.written (run_answered answer named source e e' status.kind end h) in
+          record { file = file; source = w.0; is_source = record { is_run = is; holds = w.2 }; c = w.1; compiled = w.3; holds = w.4 }
+          );
       never_c_refused = λ r h. s.never r (was (kind.CRefused r) end h (λ x. cc));
       no_file = λ h. (file, is, s.no_file (was kind.NoFile end h (λ x. cc)));
       if_missing = λ other is2 none. unless_memory answer named source e e' status.kind kind.NoFile kind.ReadFault end (s.if_missing (ap files (one_file words file other is is2) ∙ none));
@@ -310,12 +389,17 @@ file_told words file files g answer named source e e' status is s end =
     }
 
 -- the words are outside the grammar, or memory ran out before they were known to be in it
-untouched : (words : List (List ℕ)) (files : Files) (f : FolderView) (answer : Kind) (named source : List ℕ) (e e' : SinkView) (status : Status) → After f files → ((answer ≡ kind.Usage) × IsOutside words) ⊎ (answer ≡ kind.Memory) → Told answer named source e e' status.kind → ToldFiles words files f status
-untouched words files f answer named source e e' status is (inl h) end =
+untouched : (words : List (List ℕ)) (files : Files) (f g : FolderView) (answer : Kind) (named source : List ℕ) (e e' : SinkView) (status : Status) → EntriesTold words files f g → After g files → ((answer ≡ kind.Usage) × IsOutside words) ⊎ (answer ≡ kind.Memory) → Told answer named source e e' status.kind → ToldFiles words files f g status
+untouched words files f g answer named source e e' status t is (inl h) end =
     let was = answered answer named source e e' status.kind in
     record {
       after = files;
       told = is;
+      added = t.added;
+      told_calls = t.told_calls;
+      read = (t.entries_so files is).read;
+      wrote = (t.entries_so files is).wrote;
+      planned = t.planned;
       others = λ name other. refl;
       same = λ x. refl;
       written = λ x. absurd (subst IsOfRun h.0 (run_answered answer named source e e' status.kind end x));
@@ -328,15 +412,22 @@ untouched words files f answer named source e e' status is (inl h) end =
   where
     other_c : (r : CRefusal) → kind.Usage ≡ kind.CRefused r → ⊥
     other_c r x = cc
+
     other_no : kind.Usage ≡ kind.NoFile → ⊥
     other_no x = cc
+
     other_refused : (r : Refusal) → kind.Usage ≡ kind.Refused r → ⊥
     other_refused r x = cc
-untouched words files f answer named source e e' status is (inr h) end =
+untouched words files f g answer named source e e' status t is (inr h) end =
     let m : status.kind ≡ kind.Memory = memory answer named source e e' status.kind h end in
     record {
       after = files;
       told = is;
+      added = t.added;
+      told_calls = t.told_calls;
+      read = (t.entries_so files is).read;
+      wrote = (t.entries_so files is).wrote;
+      planned = t.planned;
       others = λ name other. refl;
       same = λ x. refl;
       written = λ x. absurd (subst IsOfRun m x);
@@ -350,21 +441,40 @@ untouched words files f answer named source e e' status is (inr h) end =
     memory : (answer : Kind) (named source : List ℕ) (e e' : SinkView) (k : Kind) → answer ≡ kind.Memory → Told answer named source e e' k → k ≡ kind.Memory
     memory answer named source e e' k h (inl t) = t.0 ∙ h
     memory answer named source e e' k h (inr m) = m
+
     other_c : (r : CRefusal) → kind.Memory ≡ kind.CRefused r → ⊥
     other_c r x = cc
+
     other_no : kind.Memory ≡ kind.NoFile → ⊥
     other_no x = cc
+
     other_refused : (r : Refusal) → kind.Memory ≡ kind.Refused r → ⊥
     other_refused r x = cc
 
-goes_files : (words : List (List ℕ)) (files : Files) (f g : FolderView) (o e : SinkView) (calls : List Call) (o' mid e' : SinkView) (k : Kind) (named source : List ℕ) (status : Status) → After f files → Chain f calls g → Goes words o e calls o' mid k named source → Told k named source mid e' status.kind → ToldFiles words files g status
-goes_files words files f g o e calls o' mid e' k named source status is chain (course.usage n s none) end =
-    untouched words files g kind.Usage n s mid e' status (subst (λ x. After x files) (no_call_more f g chain) is) (inl (refl, none)) end
-goes_files words files f g o e calls o' mid e' k named source status is chain (course.memory n s) end =
-    untouched words files g kind.Memory n s mid e' status (subst (λ x. After x files) (no_call_more f g chain) is) (inr refl) end
-goes_files words files f g o e calls o' mid e' k named source status is chain (course.run file cs p q l n s here goes) end =
-    file_told words file files g k named source mid e' status here (course_files file files f g o e calls o' mid k named source is chain goes) end
+goes_files : (words : List (List ℕ)) (files : Files) (f g : FolderView) (o e : SinkView) (calls : List Call) (o' mid e' : SinkView) (k : Kind) (named source : List ℕ) (status : Status) → EntriesTold words files f g → After f files → Chain f calls g → Goes words o e calls o' mid k named source → Told k named source mid e' status.kind → ToldFiles words files f g status
+goes_files words files f g o e calls o' mid e' k named source status t is chain (course.usage n s none) end =
+    untouched words files f g kind.Usage n s mid e' status t (subst (λ x. After x files) (no_call_more f g chain) is) (inl (refl, none)) end
+goes_files words files f g o e calls o' mid e' k named source status t is chain (course.memory n s) end =
+    untouched words files f g kind.Memory n s mid e' status t (subst (λ x. After x files) (no_call_more f g chain) is) (inr refl) end
+goes_files words files f g o e calls o' mid e' k named source status t is chain (course.run file cs p q l n s here goes) end =
+    file_told words file files f g k named source mid e' status here t (course_files file files f g o e calls o' mid k named source is chain goes) end
+
+-- of any words
+words_entries : (words : List (List ℕ)) (files : Files) (f g : FolderView) (o e : SinkView) (calls : List Call) (o' mid : SinkView) (k : Kind) (named source : List ℕ) → After f files → Chain f calls g → Goes words o e calls o' mid k named source → (after : Files) → After g after → EntriesSo files after (entries calls)
+words_entries words files f g o e calls o' mid k named source is chain (course.usage n s none) after there = no_entry files after
+words_entries words files f g o e calls o' mid k named source is chain (course.memory n s) after there = no_entry files after
+words_entries words files f g o e calls o' mid k named source is chain (course.run file cs p q l n s here goes) after there =
+    planned_entries file f g calls files after (course_planned file o e calls o' mid k named source goes) is chain there
 
 pub told_files : (words : List (List ℕ)) (f f' : FolderView) (o o' e e' : SinkView) (status : Status) → IsCall words f f' o o' e e' status → FilesTold words f f' status
 told_files words f f' o o' e e' status call =
-    λ files is. goes_files words files f f' o e call.calls o' call.middle e' call.answer call.named call.source status is call.chain call.goes (told call.answer call.named call.source call.middle e' status call.finishes)
+    λ files is.
+    let so = call_so words o e call.calls o' call.middle call.answer call.named call.source call.goes in
+    let t : EntriesTold words files f f' =
+    record {
+      added = entries call.calls;
+      told_calls = chain_told f call.calls f' call.chain;
+      entries_so = words_entries words files f f' o e call.calls o' call.middle call.answer call.named call.source is call.chain call.goes;
+      planned = λ file here. entries_planned file call.calls (so.planned file here);
+    } in
+    goes_files words files f f' o e call.calls o' call.middle e' call.answer call.named call.source status t is call.chain call.goes (told call.answer call.named call.source call.middle e' status call.finishes)

@@ -1,6 +1,7 @@
 -- What follows of one call, in plain words: what its status tells of the words, the calls, the files and the program.
 use Rattle.std.specs.Prelude.{◌≡◌, ◌≢◌, ℕ, ◌≤◌, List, [], ◌∷◌, ◌++◌, Option, Some, None, Ok, Err, ◌⊎◌, false}
 use Rattle.std.specs.List.{last_or}
+use Rattle.vg_base.specs.declared.outside.FolderFault.{FolderFault}
 use Rattle.vg_base.specs.declared.outside.FolderFault.TheVariants as fault
 use Rattle.vg_base.specs.declared.outside.Call.{Call}
 use Rattle.vg_base.specs.declared.outside.Call.TheVariants.{Read, Write}
@@ -46,6 +47,10 @@ SpeaksOf words k named source = Unit {0}
 abbrev pub Says : List (List ℕ) → Kind → SinkView → SinkView → Type 0
 Says words k e e' = (named : List ℕ) × (source : List ℕ) × SpeaksOf words k named source × Takes e (line_of k named source) e'
 
+-- err took this line and nothing else, unless a put on it was refused
+abbrev pub TakesLine : List ℕ → SinkView → SinkView → Type 0
+TakesLine line e e' = Takes e line e' ⊎ Rose e.faults e'.faults
+
 -- the statuses of a run of the C
 abbrev pub IsOfRun : Kind → Type 0
 IsOfRun (kind.Ended code) = Unit {0}
@@ -84,14 +89,24 @@ pub record Causes (words : List (List ℕ)) (f f' : FolderView) (o o' e e' : Sin
 abbrev pub last_of : List Call → Option Call
 last_of calls = last_or None calls
 
--- the file of the words was read, its source breaks this rule first, and there was no other call
-pub record RefusedOf (words : List (List ℕ)) (added : List Call) (r : Refusal) : Type 0 where
+-- the last call is a read of this file that was answered so, and the message line names the file
+abbrev pub FailsToRead : List Call → FolderFault → Kind → SinkView → SinkView → Type 0
+FailsToRead added answer k e e' = (name : List ℕ) × (last_of added ≡ Some (Read name (Err answer))) × TakesLine (line_of k name []) e e'
+
+-- the same of a write
+abbrev pub FailsToWrite : List Call → SinkView → SinkView → Type 0
+FailsToWrite added e e' = (name : List ℕ) × (bytes : List ℕ) × (last_of added ≡ Some (Write name bytes (Err fault.Failed))) × TakesLine (line_of kind.WriteFault name []) e e'
+
+-- The file of the words was read, its source breaks this rule first, and there was no other call. The message line gives the
+-- place in that source.
+pub record RefusedOf (words : List (List ℕ)) (added : List Call) (r : Refusal) (e e' : SinkView) : Type 0 where
   pub file : List ℕ
   pub is_run : IsRun words file
   pub source : List ℕ
   pub rest : List Refusal
   pub breaks : Breaks (source ∷ []) false (r ∷ rest)
   pub one_read : added ≡ Read file (Ok source) ∷ []
+  pub line : TakesLine (line_of (kind.Refused r) file source) e e'
 
 -- the file was read, the C of its source was written, and the C file was read
 pub record ThreeCalls (words : List (List ℕ)) (added : List Call) : Type 0 where
@@ -104,7 +119,7 @@ pub record ThreeCalls (words : List (List ℕ)) (added : List Call) : Type 0 whe
   pub all : added ≡ Read file (Ok source) ∷ Write (c_file file) c (Ok tt) ∷ Read (c_file file) (Ok bytes) ∷ []
 
 -- The calls that the folder tells behind this one, and what their answers and the status tell of each other.
-pub record ToldCalls (words : List (List ℕ)) (f f' : FolderView) (status : Status) : Type 0 where
+pub record ToldCalls (words : List (List ℕ)) (f f' : FolderView) (e e' : SinkView) (status : Status) : Type 0 where
   pub added : List Call
   pub told : AddsCalls f added f'
   -- they are a front of the plan, and all but the last were answered Ok
@@ -112,14 +127,14 @@ pub record ToldCalls (words : List (List ℕ)) (f f' : FolderView) (status : Sta
   pub outside : IsOutside words → added ≡ []
   pub usage : status.kind ≡ kind.Usage → added ≡ []
   -- a fault is that of the last call
-  pub no_file : status.kind ≡ kind.NoFile → (name : List ℕ) × (last_of added ≡ Some (Read name (Err fault.Missing)))
-  pub read_fault : status.kind ≡ kind.ReadFault → (name : List ℕ) × (last_of added ≡ Some (Read name (Err fault.Failed)))
-  pub write_fault : status.kind ≡ kind.WriteFault → (name : List ℕ) × (bytes : List ℕ) × (last_of added ≡ Some (Write name bytes (Err fault.Failed)))
+  pub no_file : status.kind ≡ kind.NoFile → FailsToRead added fault.Missing kind.NoFile e e'
+  pub read_fault : status.kind ≡ kind.ReadFault → FailsToRead added fault.Failed kind.ReadFault e e'
+  pub write_fault : status.kind ≡ kind.WriteFault → FailsToWrite added e e'
   pub if_missing : (name : List ℕ) → last_of added ≡ Some (Read name (Err fault.Missing)) → (status.kind ≡ kind.NoFile) ⊎ (status.kind ≡ kind.Memory)
   pub if_unread : (name : List ℕ) → last_of added ≡ Some (Read name (Err fault.Failed)) → (status.kind ≡ kind.ReadFault) ⊎ (status.kind ≡ kind.Memory)
   pub if_unwritten : (name bytes : List ℕ) → last_of added ≡ Some (Write name bytes (Err fault.Failed)) → (status.kind ≡ kind.WriteFault) ⊎ (status.kind ≡ kind.Memory)
   -- a broken rule
-  pub refused : (r : Refusal) → status.kind ≡ kind.Refused r → RefusedOf words added r
+  pub refused : (r : Refusal) → status.kind ≡ kind.Refused r → RefusedOf words added r e e'
   pub if_broken : (file source : List ℕ) (more : List Call) (r : Refusal) (rest : List Refusal) → IsRun words file → added ≡ Read file (Ok source) ∷ more → Breaks (source ∷ []) false (r ∷ rest) → (status.kind ≡ kind.Refused r) ⊎ (status.kind ≡ kind.Memory)
   -- the C was read back before it was refused or run
   pub c_refused : (r : CRefusal) → status.kind ≡ kind.CRefused r → ThreeCalls words added
@@ -153,9 +168,15 @@ abbrev pub RefusedUnless : Refusal → Kind → Type 0
 RefusedUnless r k = (k ≡ kind.Refused r) ⊎ ((k ≡ kind.ReadFault) ⊎ (k ≡ kind.Memory))
 
 -- What becomes of the files, and what they and the status tell of each other.
-pub record ToldFiles (words : List (List ℕ)) (files : Files) (f' : FolderView) (status : Status) : Type 0 where
+pub record ToldFiles (words : List (List ℕ)) (files : Files) (f f' : FolderView) (status : Status) : Type 0 where
   pub after : Files
   pub told : f'.files ≡ Some after
+  -- its calls, which it tells too: what was read is what the files held, and what was written is what they hold
+  pub added : List Call
+  pub told_calls : AddsCalls f added f'
+  pub read : (name bytes : List ℕ) (more : List Call) → added ≡ Read name (Ok bytes) ∷ more → files name ≡ Some bytes
+  pub wrote : (first : Call) (name bytes : List ℕ) (more : List Call) → added ≡ first ∷ Write name bytes (Ok tt) ∷ more → after name ≡ Some bytes
+  pub planned : (file : List ℕ) → IsRun words file → IsPlanned file added
   -- no file but the C file of the words changes
   pub others : (name : List ℕ) → (IsCFile words name → ⊥) → after name ≡ files name
   pub same : WritesNothing status.kind → after ≡ files
@@ -171,7 +192,7 @@ pub record ToldFiles (words : List (List ℕ)) (files : Files) (f' : FolderView)
 
 -- for a folder that tells its files
 abbrev pub FilesTold : List (List ℕ) → FolderView → FolderView → Status → Type 0
-FilesTold words f f' status = (files : Files) → f.files ≡ Some files → ToldFiles words files f' status
+FilesTold words f f' status = (files : Files) → f.files ≡ Some files → ToldFiles words files f f' status
 
 -- 4. The program
 

@@ -31,7 +31,7 @@ pub fn vala2c<F: Folder, O: Sink, E: Sink>(
 ) -> Status
     ensures call { IsCall (map string_bytes words.now) (F.seen folder.old) (F.seen folder.new) (O.seen out.old) (O.seen out.new) (E.seen err.old) (E.seen err.new) result }
     ensures causes { Causes (map string_bytes words.now) (F.seen folder.old) (F.seen folder.new) (O.seen out.old) (O.seen out.new) (E.seen err.old) (E.seen err.new) result }
-    ensures told_calls { ToldCalls (map string_bytes words.now) (F.seen folder.old) (F.seen folder.new) result }
+    ensures told_calls { ToldCalls (map string_bytes words.now) (F.seen folder.old) (F.seen folder.new) (E.seen err.old) (E.seen err.new) result }
     ensures told_files { FilesTold (map string_bytes words.now) (F.seen folder.old) (F.seen folder.new) result }
     ensures program { ProgramTold (map string_bytes words.now) (F.seen folder.old) (O.seen out.old) (O.seen out.new) (E.seen err.old) (E.seen err.new) result.kind }
 {

@@ -1,6 +1,5 @@
 -- No thing is ever made, so no count is above 0 and every run is within the limits.
-use Rattle.std.proofs.Common.{◌≡◌, ℕ, zero, suc, ◌^◌, ◌<◌, max, List, [], ◌∷◌, Option, Some, None, map, refl, ap, ◌∙◌, arith}
-use Rattle.vg_base.specs.declared.event.LiveRow.{LiveRow}
+use Rattle.std.proofs.Common.{◌≡◌, ℕ, zero, suc, ◌^◌, ◌<◌, List, [], ◌∷◌, Option, Some, None, map, refl, ap, ◌∙◌, arith}
 use Rattle.vg_base.specs.declared.event.VEnd.{VEnd}
 use Rattle.vg_base.specs.Machine.{unless_ended, move, most}
 use Rattle.vg_base.specs.World.{World}
