@@ -1,5 +1,5 @@
 -- From the contracts of the layers below to what one call of the program does.
-use Rattle.std.proofs.Common.{◌≡◌, ◌≢◌, ℕ, ◌≤◌, List, [], ◌∷◌, ◌++◌, length, Option, Some, None, Result, Ok, Err, false, refl, sym, ap, ◌∙◌, subst, inl, inr, codes, ◌⊎◌, arith}
+use Rattle.std.proofs.Common.{◌≡◌, ◌≢◌, ℕ, List, [], ◌∷◌, ◌++◌, length, Option, Some, None, Result, Ok, Err, false, refl, sym, ap, ◌∙◌, subst, inl, inr, codes, ◌⊎◌, arith}
 use Rattle.vg_base.specs.declared.outside.FolderFault.{FolderFault}
 use Rattle.vg_base.specs.declared.outside.FolderFault.TheVariants as fault
 use Rattle.vg_base.specs.declared.outside.Call.{Call}
@@ -9,13 +9,13 @@ use Rattle.vg_base.specs.declared.event.Stream.TheVariants as to
 use Rattle.vg_base.specs.Outside.{FolderView, SinkView, IsRead, IsWrite, Rose}
 use Rattle.vg_base.specs.World.{World}
 use Rattle.c_reader.specs.Dialect.{Texts}
-use Rattle.c_reader.specs.CMeaning.{CRun, c_opening}
+use Rattle.c_reader.specs.CMeaning.{c_opening}
 use Rattle.c_machine.specs.declared.run.RunEnd.{RunEnd}
 use Rattle.c_machine.specs.declared.run.RunEnd.TheVariants.{Done, Spent}
 use Rattle.c_machine.specs.declared.run.RunFault.{RunFault}
 use Rattle.c_machine.specs.declared.run.RunFault.TheVariants as run
 use Rattle.c_machine.specs.Kept.{Kept, point}
-use Rattle.c_machine.specs.Runs.{Sinks, Runs, Finished, Refused, TookFront, end_of}
+use Rattle.c_machine.specs.Runs.{Sinks, Runs, Refused, TookFront, end_of}
 use Rattle.vg_base.proofs.OutsideLaws.{takes_none}
 use Rattle.vala_compile.specs.declared.refusal.Refusal.{Refusal}
 use Rattle.vala_compile.specs.Program.{Breaks}

@@ -1,5 +1,5 @@
 -- What one call of the program does: its calls on the folder, what its sinks take, and its status.
-use Rattle.std.specs.Prelude.{◌≡◌, ℕ, ◌≤◌, ◌<◌, false, List, [], ◌∷◌, ◌++◌, length, take, Option, Some, None, Result, Ok, Err, ◌⊎◌}
+use Rattle.std.specs.Prelude.{◌≡◌, ℕ, ◌≤◌, ◌<◌, false, List, [], ◌∷◌, length, take, Some, None, Result, Ok, Err, ◌⊎◌}
 use Rattle.vg_base.specs.declared.outside.FolderFault.{FolderFault}
 use Rattle.vg_base.specs.declared.outside.FolderFault.TheVariants as fault
 use Rattle.vg_base.specs.declared.outside.Call.{Call}
@@ -8,7 +8,7 @@ use Rattle.vg_base.specs.declared.event.Stream.TheVariants as stream
 use Rattle.vg_base.specs.Outside.{FolderView, SinkView, IsRead, IsWrite, Takes, Rose}
 use Rattle.vg_base.specs.Run.{Begins}
 use Rattle.vg_base.specs.World.{World}
-use Rattle.vg_base.specs.Headline.{printed, Observed}
+use Rattle.vg_base.specs.Headline.{printed}
 use Rattle.c_reader.specs.Dialect.{Texts, Answers}
 use Rattle.c_reader.specs.CMeaning.{CRun}
 use Rattle.vala_compile.specs.declared.refusal.Refusal.{Refusal}

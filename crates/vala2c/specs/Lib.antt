@@ -2,3 +2,4 @@ pub mod Words
 pub mod Status
 pub mod Course
 pub mod Stages
+pub mod Causes

@@ -1,5 +1,5 @@
 -- The stages of `run FILE` behind the compiler: the C file is written, read back and run.
-use Rattle.std.specs.Prelude.{◌≡◌, ℕ, List, [], ◌∷◌, length, Result, Ok, Err}
+use Rattle.std.specs.Prelude.{ℕ, List, [], ◌∷◌, length, Result, Ok, Err}
 use Rattle.vg_base.specs.declared.outside.FolderFault.{FolderFault}
 use Rattle.vg_base.specs.declared.outside.FolderFault.TheVariants as fault
 use Rattle.vg_base.specs.declared.outside.Call.{Call}

@@ -1,5 +1,5 @@
 -- The statuses: their exit bytes and their message lines.
-use Rattle.std.specs.Prelude.{◌≡◌, ℕ, ◌+◌, ◌==◌, List, [], ◌∷◌, ◌++◌, length, take, count_by, codes, ℤ, pos, unsigned_abs}
+use Rattle.std.specs.Prelude.{ℕ, ◌+◌, ◌==◌, List, [], ◌∷◌, ◌++◌, length, take, count_by, codes, pos, unsigned_abs}
 use Rattle.std.specs.List.{after_last}
 use Rattle.std.specs.Int.{int_rem_euclid}
 use Rattle.std.specs.Fmt.{decimal}

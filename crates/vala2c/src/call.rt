@@ -4,6 +4,7 @@ ghost use Rattle.std.specs.Prelude.{◌≡◌, map, []};
 ghost use Rattle.std.specs.String.{string_bytes};
 ghost use Rattle.vg_base.specs.World.{IsName};
 ghost use Rattle.vala2c.specs.Words.{c_file, name_of, world_of};
+ghost use Rattle.vala2c.specs.Causes.{Causes, FilesTold, ProgramTold, ToldCalls};
 ghost use Rattle.vala2c.specs.Course.{CallBy, Closes, Course, Finishes, IsCall, Ran};
 ghost use Rattle.vala2c.specs.Stages.{BackCalls, Stage, Written, read_kind, write_kind};
 
@@ -20,8 +21,25 @@ const BUDGET: u64 = 10_000_000;
 
 const MEMORY_LINE: &[u8] = b"vala2c: out of memory\n";
 
-/// One call of the program.
+/// One call of the program. Its status tells what it came to; only want of memory may stand in place of any other.
 pub fn vala2c<F: Folder, O: Sink, E: Sink>(
+    alloc: Global,
+    words: &[String],
+    folder: &mut F,
+    out: &mut O,
+    err: &mut E,
+) -> Status
+    ensures call { IsCall (map string_bytes words.now) (F.seen folder.old) (F.seen folder.new) (O.seen out.old) (O.seen out.new) (E.seen err.old) (E.seen err.new) result }
+    ensures causes { Causes (map string_bytes words.now) (F.seen folder.old) (F.seen folder.new) (O.seen out.old) (O.seen out.new) (E.seen err.old) (E.seen err.new) result }
+    ensures told_calls { ToldCalls (map string_bytes words.now) (F.seen folder.old) (F.seen folder.new) (E.seen err.old) (E.seen err.new) result }
+    ensures told_files { FilesTold (map string_bytes words.now) (F.seen folder.old) (F.seen folder.new) result }
+    ensures program { ProgramTold (map string_bytes words.now) (F.seen folder.old) (O.seen out.old) (O.seen out.new) (E.seen err.old) (E.seen err.new) result.kind }
+{
+    one_call(alloc, words, folder, out, err)
+}
+
+// The call, against the one relation that tells all of it.
+fn one_call<F: Folder, O: Sink, E: Sink>(
     alloc: Global,
     words: &[String],
     folder: &mut F,

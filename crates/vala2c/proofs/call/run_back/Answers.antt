@@ -1,4 +1,3 @@
-use Rattle.std.proofs.Common.{◌≡◌, ◌∙◌, subst, sym, ap}
 use Rattle.vala2c.proofs.Calls.{reads, back_fault}
 use Rattle.vala2c.specs.Stages as stage
 use Rattle.vala2c.proofs.call.run_back.Goals as goal

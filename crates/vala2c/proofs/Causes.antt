@@ -1,0 +1,470 @@
+-- What the status of a call tells of the words, the counts and the message line.
+use Rattle.std.proofs.Common.{◌≡◌, ◌≢◌, ℕ, ◌+◌, ◌-◌, ◌^◌, ◌≤◌, ◌<◌, min, List, [], ◌∷◌, ◌++◌, length, Some, Result, Ok, Err, refl, sym, ◌∙◌, subst, inl, inr, ◌⊎◌, arith}
+use Rattle.vg_base.specs.declared.outside.FolderFault.{FolderFault}
+use Rattle.vg_base.specs.declared.outside.FolderFault.TheVariants as fault
+use Rattle.vg_base.specs.declared.outside.Call.{Call}
+use Rattle.vg_base.specs.declared.outside.Call.TheVariants.{Read, Write}
+use Rattle.vg_base.specs.declared.event.CEnd.{CEnd}
+use Rattle.vg_base.specs.declared.event.CEnd.TheVariants as c
+use Rattle.vg_base.specs.declared.event.UndefKind.TheVariants as u
+use Rattle.vg_base.specs.declared.event.Stream.TheVariants as stream
+use Rattle.vg_base.specs.Outside.{FolderView, SinkView, IsRead, IsWrite, Takes, Rose, entry_of_read, entry_of_write}
+use Rattle.vg_base.specs.Run.{Begins}
+use Rattle.vg_base.specs.World.{World}
+use Rattle.vg_base.specs.Headline.{printed}
+use Rattle.vg_base.proofs.OutsideLaws.{takes_none, takes_both}
+use Rattle.vg_base.proofs.RunLaws.{begins_refl}
+use Rattle.c_reader.specs.Dialect.{Texts}
+use Rattle.c_reader.specs.CMeaning.{CRun}
+use Rattle.vala2c.specs.declared.status.Kind.{Kind}
+use Rattle.vala2c.specs.declared.status.Kind.TheVariants as kind
+use Rattle.vala2c.specs.declared.status.Status.{Status}
+use Rattle.vala2c.specs.Words.{IsRun, c_file, world_of}
+use Rattle.vala2c.specs.Status.{line_of, kind_of_end, unheard}
+use Rattle.vala2c.specs.Course.{Chain, TakesAll, TakesFront, Ran, IsPlanned, Course, Goes, Closes, Finishes, CallBy, IsCall, budget, prints_out, prints_err}
+use Rattle.vala2c.specs.Course as course
+use Rattle.vala2c.specs.Causes.{IsOutside, SpeaksOf, Says, TakesLine, IsOfRun, Causes, last_of}
+use Rattle.vala2c.proofs.Quiet.{nothing_on_err}
+
+-- 1. Counts
+
+rose_under : (limit a b x : ℕ) → a ≤ b → min (b + 1) limit ≤ x → min (a + 1) limit ≤ x
+rose_under limit a b x le r = omega arith
+
+rose_over : (limit a x y : ℕ) → min (a + 1) limit ≤ x → x ≤ y → min (a + 1) limit ≤ y
+rose_over limit a x y r le = omega arith
+
+-- a count that was no greater before rose too, and one that is no less behind
+pub rose_before : (a b x : ℕ) → a ≤ b → Rose b x → Rose a x
+rose_before a b x le r = rose_under (2 ^ 64 - 1) a b x le r
+
+pub rose_behind : (a x y : ℕ) → Rose a x → x ≤ y → Rose a y
+rose_behind a x y r le = rose_over (2 ^ 64 - 1) a x y r le
+
+-- 2. The message line
+
+unheard_same : (k : Kind) (named source : List ℕ) (n : ℕ) → n < length (line_of k named source) → unheard k ≡ k
+unheard_same (kind.Ended code) named source n h = absurd (omega arith)
+unheard_same k named source n h = refl
+
+-- The status is the answer, and its line was put unless a put was refused; or memory ran out.
+abbrev pub Told : Kind → List ℕ → List ℕ → SinkView → SinkView → Kind → Type 0
+Told answer named source e e' k = ((k ≡ answer) × TakesLine (line_of answer named source) e e') ⊎ (k ≡ kind.Memory)
+
+closed : (spoken : Kind) (named source line : List ℕ) (e e' : SinkView) (k : Kind) → line ≡ line_of spoken named source → Closes line spoken e e' k → Told spoken named source e e' k
+closed spoken named source line e e' k is (course.put t) = inl (refl, inl (subst (λ l. Takes e l e') is t.0))
+closed spoken named source line e e' k is (course.refused n lt t rose) =
+    inl (unheard_same spoken named source n (subst (λ l. n < length l) is lt), inr rose)
+closed spoken named source line e e' k is (course.memory n lt t) = inr refl
+
+spoken_is : (spoken answer : Kind) (named source : List ℕ) (e e' : SinkView) (k : Kind) → (spoken ≡ answer) ⊎ (spoken ≡ kind.Memory) → Told spoken named source e e' k → Told answer named source e e' k
+spoken_is spoken answer named source e e' k (inl is) t = subst (λ a. Told a named source e e' k) is t
+spoken_is spoken answer named source e e' k (inr is) (inl t) = inr (t.0 ∙ is)
+spoken_is spoken answer named source e e' k (inr is) (inr t) = inr t
+
+pub told : (answer : Kind) (named source : List ℕ) (e e' : SinkView) (status : Status) → Finishes answer named source e e' status → Told answer named source e e' status.kind
+told answer named source e e' status h =
+    spoken_is h.spoken answer named source e e' status.kind h.is_spoken (closed h.spoken named source _ e e' status.kind refl h.closes)
+
+closed_faults : (line : List ℕ) (spoken : Kind) (e e' : SinkView) (k : Kind) → Closes line spoken e e' k → e.faults ≤ e'.faults
+closed_faults line spoken e e' k (course.put t) = t.1
+closed_faults line spoken e e' k (course.refused n lt t rose) = t.1
+closed_faults line spoken e e' k (course.memory n lt t) = t.1
+
+pub finish_faults : (answer : Kind) (named source : List ℕ) (e e' : SinkView) (status : Status) → Finishes answer named source e e' status → e.faults ≤ e'.faults
+finish_faults answer named source e e' status h = closed_faults _ h.spoken e e' status.kind h.closes
+
+-- the answer of a call whose status is another than want of memory
+pub answered : (answer : Kind) (named source : List ℕ) (e e' : SinkView) (k l : Kind) → Told answer named source e e' k → k ≡ l → l ≢ kind.Memory → answer ≡ l
+answered answer named source e e' k l (inl t) is not = sym t.0 ∙ is
+answered answer named source e e' k l (inr m) is not = absurd (not (sym is ∙ m))
+
+-- what an answer is stands in the status, unless memory ran out
+pub in_status : (answer : Kind) (named source : List ℕ) (e e' : SinkView) (k l : Kind) → Told answer named source e e' k → (answer ≡ l) ⊎ (answer ≡ kind.Memory) → (k ≡ l) ⊎ (k ≡ kind.Memory)
+in_status answer named source e e' k l (inl t) (inl is) = inl (t.0 ∙ is)
+in_status answer named source e e' k l (inl t) (inr is) = inr (t.0 ∙ is)
+in_status answer named source e e' k l (inr m) is = inr m
+
+-- 3. The run of a unit
+
+abbrev pub SpeaksOfNothing : Kind → Type 0
+SpeaksOfNothing k = (words : List (List ℕ)) (named source : List ℕ) → SpeaksOf words k named source
+
+end_speaks : (end : CEnd) → SpeaksOfNothing (kind_of_end end)
+end_speaks (c.Ended code) = λ words named source. tt
+end_speaks (c.Aborted k) = λ words named source. tt
+end_speaks c.Waiting = λ words named source. tt
+end_speaks (c.Undefined u.Freed) = λ words named source. tt
+end_speaks (c.Undefined k) = λ words named source. tt
+
+end_of_run : (end : CEnd) → IsOfRun (kind_of_end end)
+end_of_run (c.Ended code) = tt
+end_of_run (c.Aborted k) = tt
+end_of_run c.Waiting = tt
+end_of_run (c.Undefined u.Freed) = tt
+end_of_run (c.Undefined k) = tt
+
+end_no_fault : (end : CEnd) → kind_of_end end ≢ kind.OutFault
+end_no_fault (c.Ended code) h = cc
+end_no_fault (c.Aborted k) h = cc
+end_no_fault c.Waiting h = cc
+end_no_fault (c.Undefined u.Freed) h = cc
+end_no_fault (c.Undefined k) h = cc
+
+-- no tactic may read what a run prints: it would count the steps
+spent_no_fault : kind.StepsSpent ≢ kind.OutFault
+spent_no_fault h = cc
+
+memory_no_fault : kind.Memory ≢ kind.OutFault
+memory_no_fault h = cc
+
+-- what a run says of its status and its sinks, whichever way it went
+pub record RanSo (unit : Texts) (w : World) (o o' e e' : SinkView) (k : Kind) : Type 0 where
+  pub speaks : SpeaksOfNothing k
+  pub is_of_run : IsOfRun k ⊎ (k ≡ kind.Memory)
+  pub fault : k ≡ kind.OutFault → Rose o.faults o'.faults ⊎ Rose e.faults e'.faults
+  pub out : TakesFront (prints_out unit w) o o'
+  pub err : TakesFront (prints_err unit w) e e'
+
+all_front : (bytes : List ℕ) (s s' : SinkView) → TakesAll bytes s s' → TakesFront bytes s s'
+all_front bytes s s' t = (bytes, begins_refl bytes, t.0, t.1)
+
+pub ran_so : (unit : Texts) (w : World) (o o' e e' : SinkView) (k : Kind) → Ran unit w o o' e e' k → RanSo unit w o o' e e' k
+ran_so unit w o o' e e' k (course.ended end is out err) =
+    record { speaks = end_speaks end; is_of_run = inl (end_of_run end); fault = λ h. absurd (end_no_fault end h); out = all_front _ o o' out; err = all_front _ e e' err }
+ran_so unit w o o' e e' k (course.spent is out err) =
+    record { speaks = λ words named source. tt; is_of_run = inl tt; fault = λ h. absurd (spent_no_fault h); out = all_front _ o o' out; err = all_front _ e e' err }
+ran_so unit w o o' e e' k (course.refused out err rose) =
+    record { speaks = λ words named source. tt; is_of_run = inl tt; fault = λ h. rose; out = out; err = err }
+ran_so unit w o o' e e' k (course.memory out err) =
+    record { speaks = λ words named source. tt; is_of_run = inr refl; fault = λ h. absurd (memory_no_fault h); out = out; err = err }
+
+nothing_begins : (front bytes : List ℕ) → bytes ≡ [] → Begins front bytes → front ≡ []
+nothing_begins [] bytes is b = refl
+nothing_begins (x ∷ front) bytes is b = let e : x ∷ (front ++ b.0) ≡ [] = b.1 ∙ is in cc
+
+-- err took nothing
+pub nothing_took : (unit : Texts) (w : World) (limit : ℕ) (e e' : SinkView) → TakesFront (printed stream.Err ((CRun unit w).trace limit)) e e' → Takes e [] e'
+nothing_took unit w limit e e' t = subst (λ l. Takes e l e') (nothing_begins t.0 _ (nothing_on_err unit w limit) t.1) t.2
+
+-- 4. How a call goes: its sinks before the message line
+
+pub record SinksSo (o o' e e' : SinkView) (k : Kind) : Type 0 where
+  pub out_faults : o.faults ≤ o'.faults
+  pub err_faults : e.faults ≤ e'.faults
+  pub nothing : Takes e [] e'
+  pub fault : k ≡ kind.OutFault → Rose o.faults o'.faults ⊎ Rose e.faults e'.faults
+  pub silent : (IsOfRun k → ⊥) → k ≢ kind.Memory → o' ≡ o
+
+untouched : (o e : SinkView) (k : Kind) → k ≢ kind.OutFault → SinksSo o o e e k
+untouched o e k not =
+    record { out_faults = omega arith; err_faults = omega arith; nothing = takes_none e e refl; fault = λ h. absurd (not h); silent = λ a b. refl }
+
+not_silent : {A : Type 0} (k : Kind) → IsOfRun k ⊎ (k ≡ kind.Memory) → (IsOfRun k → ⊥) → k ≢ kind.Memory → A
+not_silent k (inl h) a b = absurd (a h)
+not_silent k (inr h) a b = absurd (b h)
+
+ran_sinks : (unit : Texts) (w : World) (o o' e e' : SinkView) (k : Kind) → RanSo unit w o o' e e' k → SinksSo o o' e e' k
+ran_sinks unit w o o' e e' k r =
+    record { out_faults = r.out.3; err_faults = r.err.3; nothing = nothing_took unit w budget e e' r.err; fault = r.fault; silent = λ a b. not_silent k r.is_of_run a b }
+
+pub course_sinks : (file : List ℕ) (o e : SinkView) (calls : List Call) (o' e' : SinkView) (k : Kind) (named source : List ℕ) → Course file o e calls o' e' k named source → SinksSo o o' e e' k
+course_sinks file o e calls o' e' k named source course.no_file = untouched o e kind.NoFile (λ h. cc)
+course_sinks file o e calls o' e' k named source course.unread = untouched o e kind.ReadFault (λ h. cc)
+course_sinks file o e calls o' e' k named source (course.refused s r rest b) = untouched o e (kind.Refused r) (λ h. cc)
+course_sinks file o e calls o' e' k named source (course.unwritten s c h) = untouched o e kind.WriteFault (λ h. cc)
+course_sinks file o e calls o' e' k named source (course.gone s c h) = untouched o e kind.NoFile (λ h. cc)
+course_sinks file o e calls o' e' k named source (course.unread_back s c h) = untouched o e kind.ReadFault (λ h. cc)
+course_sinks file o e calls o' e' k named source (course.c_refused s c b r h a) = untouched o e (kind.CRefused r) (λ h. cc)
+course_sinks file o e calls o' e' k named source (course.ran s c b unit p q l n t h a r) = ran_sinks unit (world_of file) o o' e e' k (ran_so unit (world_of file) o o' e e' k r)
+course_sinks file o e calls o' e' k named source (course.memory cs n s p) = untouched o e kind.Memory memory_no_fault
+
+-- 5. What the message line speaks of
+
+pub course_speaks : (words : List (List ℕ)) (file : List ℕ) (o e : SinkView) (calls : List Call) (o' e' : SinkView) (k : Kind) (named source : List ℕ) → IsRun words file → Course file o e calls o' e' k named source → SpeaksOf words k named source
+course_speaks words file o e calls o' e' k named source is course.no_file = inl is
+course_speaks words file o e calls o' e' k named source is course.unread = inl is
+course_speaks words file o e calls o' e' k named source is (course.refused s r rest b) = (is, (rest, b))
+course_speaks words file o e calls o' e' k named source is (course.unwritten s c h) = (file, is, refl)
+course_speaks words file o e calls o' e' k named source is (course.gone s c h) = inr (file, is, refl)
+course_speaks words file o e calls o' e' k named source is (course.unread_back s c h) = inr (file, is, refl)
+course_speaks words file o e calls o' e' k named source is (course.c_refused s c b r h a) = (file, is, refl)
+course_speaks words file o e calls o' e' k named source is (course.ran s c b unit p q l n t h a r) = (ran_so unit (world_of file) o o' e e' k r).speaks words named source
+course_speaks words file o e calls o' e' k named source is (course.memory cs n s p) = tt
+
+-- 6. Its calls
+
+pub course_planned : (file : List ℕ) (o e : SinkView) (calls : List Call) (o' e' : SinkView) (k : Kind) (named source : List ℕ) → Course file o e calls o' e' k named source → IsPlanned file calls
+course_planned file o e calls o' e' k named source course.no_file = course.source (Err fault.Missing)
+course_planned file o e calls o' e' k named source course.unread = course.source (Err fault.Failed)
+course_planned file o e calls o' e' k named source (course.refused s r rest b) = course.source (Ok s)
+course_planned file o e calls o' e' k named source (course.unwritten s c h) = course.written s c (Err fault.Failed) h
+course_planned file o e calls o' e' k named source (course.gone s c h) = course.back s c (Err fault.Missing) h
+course_planned file o e calls o' e' k named source (course.unread_back s c h) = course.back s c (Err fault.Failed) h
+course_planned file o e calls o' e' k named source (course.c_refused s c b r h a) = course.back s c (Ok b) h
+course_planned file o e calls o' e' k named source (course.ran s c b unit p q l n t h a r) = course.back s c (Ok b) h
+course_planned file o e calls o' e' k named source (course.memory cs n s p) = p
+
+-- the calls that leave an entry
+abbrev pub entries : List Call → List Call
+entries [] = []
+entries (Read name answer ∷ calls) = entry_of_read name answer ++ entries calls
+entries (Write name bytes answer ∷ calls) = entry_of_write name bytes answer ++ entries calls
+
+-- the last call, and the last that leaves an entry
+abbrev pub LastIs : List Call → Call → Type 0
+LastIs calls call = (last_of calls ≡ Some call) × (last_of (entries calls) ≡ Some call)
+
+-- what the last call and the status tell of each other
+pub record FaultsSo (calls : List Call) (k : Kind) (named : List ℕ) : Type 0 where
+  pub no_file : k ≡ kind.NoFile → LastIs calls (Read named (Err fault.Missing))
+  pub read_fault : k ≡ kind.ReadFault → LastIs calls (Read named (Err fault.Failed))
+  pub write_fault : k ≡ kind.WriteFault → (bytes : List ℕ) × LastIs calls (Write named bytes (Err fault.Failed))
+  pub if_missing : (name : List ℕ) → last_of (entries calls) ≡ Some (Read name (Err fault.Missing)) → (k ≡ kind.NoFile) ⊎ (k ≡ kind.Memory)
+  pub if_unread : (name : List ℕ) → last_of (entries calls) ≡ Some (Read name (Err fault.Failed)) → (k ≡ kind.ReadFault) ⊎ (k ≡ kind.Memory)
+  pub if_unwritten : (name bytes : List ℕ) → last_of (entries calls) ≡ Some (Write name bytes (Err fault.Failed)) → (k ≡ kind.WriteFault) ⊎ (k ≡ kind.Memory)
+
+last_missing : (calls : List Call) (name : List ℕ) → LastIs calls (Read name (Err fault.Missing)) → FaultsSo calls kind.NoFile name
+last_missing calls name l =
+    record {
+      no_file = λ h. l;
+      read_fault = λ h. cc;
+      write_fault = λ h. cc;
+      if_missing = λ other e. inl refl;
+      if_unread = λ other e. cc;
+      if_unwritten = λ other bytes e. cc;
+    }
+
+last_unread : (calls : List Call) (name : List ℕ) → LastIs calls (Read name (Err fault.Failed)) → FaultsSo calls kind.ReadFault name
+last_unread calls name l =
+    record {
+      no_file = λ h. cc;
+      read_fault = λ h. l;
+      write_fault = λ h. cc;
+      if_missing = λ other e. cc;
+      if_unread = λ other e. inl refl;
+      if_unwritten = λ other bytes e. cc;
+    }
+
+last_unwritten : (calls : List Call) (name bytes : List ℕ) → LastIs calls (Write name bytes (Err fault.Failed)) → FaultsSo calls kind.WriteFault name
+last_unwritten calls name bytes l =
+    record {
+      no_file = λ h. cc;
+      read_fault = λ h. cc;
+      write_fault = λ h. (bytes, l);
+      if_missing = λ other e. cc;
+      if_unread = λ other e. cc;
+      if_unwritten = λ other bytes e. inl refl;
+    }
+
+last_read : (calls : List Call) (name bytes named : List ℕ) (k : Kind) → last_of (entries calls) ≡ Some (Read name (Ok bytes)) → k ≢ kind.NoFile → k ≢ kind.ReadFault → k ≢ kind.WriteFault → FaultsSo calls k named
+last_read calls name bytes named k l a b c =
+    record {
+      no_file = λ h. absurd (a h);
+      read_fault = λ h. absurd (b h);
+      write_fault = λ h. absurd (c h);
+      if_missing = λ other e. cc;
+      if_unread = λ other e. cc;
+      if_unwritten = λ other bytes e. cc;
+    }
+
+without_memory : (calls : List Call) (named : List ℕ) → FaultsSo calls kind.Memory named
+without_memory calls named =
+    record {
+      no_file = λ h. cc;
+      read_fault = λ h. cc;
+      write_fault = λ h. cc;
+      if_missing = λ other e. inr refl;
+      if_unread = λ other e. inr refl;
+      if_unwritten = λ other bytes e. inr refl;
+    }
+
+without_calls : (named : List ℕ) → FaultsSo [] kind.Usage named
+without_calls named =
+    record {
+      no_file = λ h. cc;
+      read_fault = λ h. cc;
+      write_fault = λ h. cc;
+      if_missing = λ other e. cc;
+      if_unread = λ other e. cc;
+      if_unwritten = λ other bytes e. cc;
+    }
+
+-- a status that no run has
+pub not_of_run : (k l : Kind) → IsOfRun k ⊎ (k ≡ kind.Memory) → (IsOfRun l → ⊥) → l ≢ kind.Memory → k ≢ l
+not_of_run k l (inl r) a b h = a (subst IsOfRun h r)
+not_of_run k l (inr m) a b h = b (sym h ∙ m)
+
+ran_faults : (calls : List Call) (name bytes named : List ℕ) (k : Kind) → last_of (entries calls) ≡ Some (Read name (Ok bytes)) → IsOfRun k ⊎ (k ≡ kind.Memory) → FaultsSo calls k named
+ran_faults calls name bytes named k l r =
+    last_read calls name bytes named k l (not_of_run k kind.NoFile r (λ x. x) (λ h. cc)) (not_of_run k kind.ReadFault r (λ x. x) (λ h. cc)) (not_of_run k kind.WriteFault r (λ x. x) (λ h. cc))
+
+pub course_faults : (file : List ℕ) (o e : SinkView) (calls : List Call) (o' e' : SinkView) (k : Kind) (named source : List ℕ) → Course file o e calls o' e' k named source → FaultsSo calls k named
+course_faults file o e calls o' e' k named source course.no_file = last_missing _ file (refl, refl)
+course_faults file o e calls o' e' k named source course.unread = last_unread _ file (refl, refl)
+course_faults file o e calls o' e' k named source (course.refused s r rest b) = last_read _ file s named (kind.Refused r) refl (λ h. cc) (λ h. cc) (λ h. cc)
+course_faults file o e calls o' e' k named source (course.unwritten s c h) = last_unwritten _ (c_file file) c (refl, refl)
+course_faults file o e calls o' e' k named source (course.gone s c h) = last_missing _ (c_file file) (refl, refl)
+course_faults file o e calls o' e' k named source (course.unread_back s c h) = last_unread _ (c_file file) (refl, refl)
+course_faults file o e calls o' e' k named source (course.c_refused s c b r h a) = last_read _ (c_file file) b named (kind.CRefused r) refl (λ h. cc) (λ h. cc) (λ h. cc)
+course_faults file o e calls o' e' k named source (course.ran s c b unit p q l n t h a r) = ran_faults _ (c_file file) b named k refl (ran_so unit (world_of file) o o' e e' k r).is_of_run
+course_faults file o e calls o' e' k named source (course.memory cs n s p) = without_memory cs named
+
+not_usage : (k : Kind) → IsOfRun k ⊎ (k ≡ kind.Memory) → k ≢ kind.Usage
+not_usage k r = not_of_run k kind.Usage r (λ x. x) (λ h. cc)
+
+course_no_usage : (file : List ℕ) (o e : SinkView) (calls : List Call) (o' e' : SinkView) (k : Kind) (named source : List ℕ) → Course file o e calls o' e' k named source → k ≢ kind.Usage
+course_no_usage file o e calls o' e' k named source course.no_file = λ h. cc
+course_no_usage file o e calls o' e' k named source course.unread = λ h. cc
+course_no_usage file o e calls o' e' k named source (course.refused s r rest b) = λ h. cc
+course_no_usage file o e calls o' e' k named source (course.unwritten s c h) = λ h. cc
+course_no_usage file o e calls o' e' k named source (course.gone s c h) = λ h. cc
+course_no_usage file o e calls o' e' k named source (course.unread_back s c h) = λ h. cc
+course_no_usage file o e calls o' e' k named source (course.c_refused s c b r h a) = λ h. cc
+course_no_usage file o e calls o' e' k named source (course.ran s c b unit p q l n t h a r) = not_usage k (ran_so unit (world_of file) o o' e e' k r).is_of_run
+course_no_usage file o e calls o' e' k named source (course.memory cs n s p) = λ h. cc
+
+-- the words make one file
+pub one_file : (words : List (List ℕ)) (a b : List ℕ) → IsRun words a → IsRun words b → a ≡ b
+one_file words a b p q = cc (sym p.words_are ∙ q.words_are)
+
+-- all of this of a call on any words
+pub record CallSo (words : List (List ℕ)) (o e : SinkView) (calls : List Call) (o' e' : SinkView) (k : Kind) (named source : List ℕ) : Type 0 where
+  pub sinks : SinksSo o o' e e' k
+  pub speaks : SpeaksOf words k named source
+  pub faults : FaultsSo calls k named
+  pub planned : (file : List ℕ) → IsRun words file → IsPlanned file calls
+  pub usage : k ≡ kind.Usage → IsOutside words × (calls ≡ [])
+  pub outside : IsOutside words → ((k ≡ kind.Usage) ⊎ (k ≡ kind.Memory)) × (calls ≡ [])
+
+pub call_so : (words : List (List ℕ)) (o e : SinkView) (calls : List Call) (o' e' : SinkView) (k : Kind) (named source : List ℕ) → Goes words o e calls o' e' k named source → CallSo words o e calls o' e' k named source
+call_so words o e calls o' e' k named source (course.usage n s none) =
+    record {
+      sinks = untouched o e kind.Usage (λ h. cc);
+      speaks = tt;
+      faults = without_calls named;
+      planned = λ file is. course.none;
+      usage = λ h. (none, refl);
+      outside = λ h. (inl refl, refl);
+    }
+call_so words o e calls o' e' k named source (course.memory n s) =
+    record {
+      sinks = untouched o e kind.Memory memory_no_fault;
+      speaks = tt;
+      faults = without_memory [] named;
+      planned = λ file is. course.none;
+      usage = λ h. cc;
+      outside = λ h. (inr refl, refl);
+    }
+call_so words o e calls o' e' k named source (course.run file cs p q l n s is goes) =
+    record {
+      sinks = course_sinks file o e calls o' e' k named source goes;
+      speaks = course_speaks words file o e calls o' e' k named source is goes;
+      faults = course_faults file o e calls o' e' k named source goes;
+      planned = λ other is2. subst (λ x. IsPlanned x calls) (one_file words file other is is2) (course_planned file o e calls o' e' k named source goes);
+      usage = λ h. absurd (course_no_usage file o e calls o' e' k named source goes h);
+      outside = λ h. absurd (h file is);
+    }
+
+-- 7. The counts of the folder
+
+pub chain_counts : (f : FolderView) (calls : List Call) (g : FolderView) → Chain f calls g → (f.faults ≤ g.faults) × (f.misses ≤ g.misses)
+chain_counts f calls g (course.none _) = (omega arith, omega arith)
+chain_counts f calls g (course.read _ mid _ name answer cs h rest) =
+    let later = chain_counts mid cs g rest in
+    let a = h.faults in
+    let b = h.misses in
+    (omega (arith, later.0), omega (arith, later.1))
+chain_counts f calls g (course.write _ mid _ name bytes answer cs h rest) =
+    let later = chain_counts mid cs g rest in
+    let a = h.faults in
+    let b = h.misses in
+    (omega (arith, later.0), omega (arith, later.1))
+
+-- the counts that a call raises
+abbrev Raises : Call → FolderView → FolderView → Type 0
+Raises (Read name (Err fault.Missing)) f g = Rose f.misses g.misses
+Raises (Read name (Err fault.Failed)) f g = Rose f.faults g.faults
+Raises (Write name bytes (Err fault.Failed)) f g = Rose f.faults g.faults
+Raises call f g = Unit {0}
+
+read_raises : (f g : FolderView) (name : List ℕ) (answer : Result (List ℕ) FolderFault) → IsRead f name answer g → Raises (Read name answer) f g
+read_raises f g name (Err fault.Missing) h = h.missing refl
+read_raises f g name (Err fault.Failed) h = h.failed refl
+read_raises f g name (Err fault.Memory) h = tt
+read_raises f g name (Ok bytes) h = tt
+
+write_raises : (f g : FolderView) (name bytes : List ℕ) (answer : Result (Unit {0}) FolderFault) → IsWrite f name bytes answer g → Raises (Write name bytes answer) f g
+write_raises f g name bytes (Err fault.Failed) h = h.failed refl
+write_raises f g name bytes (Err fault.Missing) h = tt
+write_raises f g name bytes (Err fault.Memory) h = tt
+write_raises f g name bytes (Ok x) h = tt
+
+raises_before : (call : Call) (f mid g : FolderView) → f.faults ≤ mid.faults → f.misses ≤ mid.misses → Raises call mid g → Raises call f g
+raises_before (Read name (Err fault.Missing)) f mid g a b r = rose_before f.misses mid.misses g.misses b r
+raises_before (Read name (Err fault.Failed)) f mid g a b r = rose_before f.faults mid.faults g.faults a r
+raises_before (Read name (Err fault.Memory)) f mid g a b r = tt
+raises_before (Read name (Ok bytes)) f mid g a b r = tt
+raises_before (Write name bytes (Err fault.Failed)) f mid g a b r = rose_before f.faults mid.faults g.faults a r
+raises_before (Write name bytes (Err fault.Missing)) f mid g a b r = tt
+raises_before (Write name bytes (Err fault.Memory)) f mid g a b r = tt
+raises_before (Write name bytes (Ok x)) f mid g a b r = tt
+
+raises_same : (call last : Call) (f mid g : FolderView) → Chain mid [] g → Some call ≡ Some last → Raises call f mid → Raises last f g
+raises_same call last f mid g (course.none _) e r = let same : call ≡ last = cc in subst (λ c. Raises c f mid) same r
+
+-- the last call of a chain raised its count
+pub chain_raises : (f : FolderView) (calls : List Call) (g : FolderView) (last : Call) → Chain f calls g → last_of calls ≡ Some last → Raises last f g
+chain_raises f calls g last (course.none _) e = cc
+chain_raises f calls g last (course.read _ mid _ name answer [] h rest) e = raises_same (Read name answer) last f mid g rest e (read_raises f mid name answer h)
+chain_raises f calls g last (course.read _ mid _ name answer (c ∷ cs) h rest) e = raises_before last f mid g h.faults h.misses (chain_raises mid (c ∷ cs) g last rest e)
+chain_raises f calls g last (course.write _ mid _ name bytes answer [] h rest) e = raises_same (Write name bytes answer) last f mid g rest e (write_raises f mid name bytes answer h)
+chain_raises f calls g last (course.write _ mid _ name bytes answer (c ∷ cs) h rest) e = raises_before last f mid g h.faults h.misses (chain_raises mid (c ∷ cs) g last rest e)
+
+-- 8. The clause
+
+said_so : (words : List (List ℕ)) (answer : Kind) (named source : List ℕ) (e mid e' : SinkView) (k : Kind) → SpeaksOf words answer named source → e.faults ≤ mid.faults → Takes e [] mid → Told answer named source mid e' k → Says words k e e' ⊎ (Rose e.faults e'.faults ⊎ (k ≡ kind.Memory))
+said_so words answer named source e mid e' k speaks le nothing (inl (is, inl put)) =
+    let s : Says words answer e e' = (named, source, speaks, takes_both e mid e' [] (line_of answer named source) nothing put) in
+    inl (subst (λ a. Says words a e e') (sym is) s)
+said_so words answer named source e mid e' k speaks le nothing (inl (is, inr rose)) = inr (inl (rose_before e.faults mid.faults e'.faults le rose))
+said_so words answer named source e mid e' k speaks le nothing (inr is) = inr (inr is)
+
+-- an error of a sink is one of out, or of err before or in the message line
+out_or_err : (o o' e mid e' : SinkView) → mid.faults ≤ e'.faults → Rose o.faults o'.faults ⊎ Rose e.faults mid.faults → Rose o.faults o'.faults ⊎ Rose e.faults e'.faults
+out_or_err o o' e mid e' le (inl r) = inl r
+out_or_err o o' e mid e' le (inr r) = inr (rose_behind e.faults mid.faults e'.faults r le)
+
+silent_so : (answer : Kind) (named source : List ℕ) (o o' e mid e' : SinkView) (k : Kind) → SinksSo o o' e mid answer → Told answer named source mid e' k → (IsOfRun k → ⊥) → k ≢ kind.Memory → o' ≡ o
+silent_so answer named source o o' e mid e' k s (inl t) a b = s.silent (λ r. a (subst IsOfRun (sym t.0) r)) (λ m. b (t.0 ∙ m))
+silent_so answer named source o o' e mid e' k s (inr m) a b = absurd (b m)
+
+-- the message line of an answer that is no want of memory
+pub line_so : (answer : Kind) (named source : List ℕ) (e mid e' : SinkView) (k l : Kind) → e.faults ≤ mid.faults → Takes e [] mid → Told answer named source mid e' k → k ≡ l → l ≢ kind.Memory → TakesLine (line_of l named source) e e'
+line_so answer named source e mid e' k l le nothing (inl (is, inl put)) e2 not =
+    inl (subst (λ a. Takes e (line_of a named source) e') (sym is ∙ e2) (takes_both e mid e' [] (line_of answer named source) nothing put))
+line_so answer named source e mid e' k l le nothing (inl (is, inr rose)) e2 not = inr (rose_before e.faults mid.faults e'.faults le rose)
+line_so answer named source e mid e' k l le nothing (inr m) e2 not = absurd (not (sym e2 ∙ m))
+
+pub causes : (words : List (List ℕ)) (f f' : FolderView) (o o' e e' : SinkView) (status : Status) → IsCall words f f' o o' e e' status → Causes words f f' o o' e e' status
+causes words f f' o o' e e' status call =
+    let so = call_so words o e call.calls o' call.middle call.answer call.named call.source call.goes in
+    let end = told call.answer call.named call.source call.middle e' status call.finishes in
+    let counts = chain_counts f call.calls f' call.chain in
+    let later = finish_faults call.answer call.named call.source call.middle e' status call.finishes in
+    let was = answered call.answer call.named call.source call.middle e' status.kind in
+    record {
+      code = call.finishes.code;
+      usage = λ h. (so.usage (was kind.Usage end h (λ x. cc))).0;
+      outside = λ h. in_status call.answer call.named call.source call.middle e' status.kind kind.Usage end (so.outside h).0;
+      no_file = λ h. (let l = so.faults.no_file (was kind.NoFile end h (λ x. cc)) in chain_raises f call.calls f' _ call.chain l.0);
+      read_fault = λ h. (let l = so.faults.read_fault (was kind.ReadFault end h (λ x. cc)) in chain_raises f call.calls f' _ call.chain l.0);
+      write_fault = λ h. (let l = so.faults.write_fault (was kind.WriteFault end h (λ x. cc)) in chain_raises f call.calls f' _ call.chain l.1.0);
+      out_fault = λ h. out_or_err o o' e call.middle e' later (so.sinks.fault (was kind.OutFault end h (λ x. cc)));
+      misses = counts.1;
+      faults = counts.0;
+      out_faults = so.sinks.out_faults;
+      err_faults = (let a = so.sinks.err_faults in omega arith);
+      said = said_so words call.answer call.named call.source e call.middle e' status.kind so.speaks so.sinks.err_faults so.sinks.nothing end;
+      silent = silent_so call.answer call.named call.source o o' e call.middle e' status.kind so.sinks end;
+    }
