@@ -1,5 +1,5 @@
 -- The small texts that the first path reads, Vala and C alike: their tokens, and a head, calls with one text each, and a tail.
-use Rattle.std.specs.Prelude.{◌≡◌, ℕ, Bool, true, false, not, ◌==◌, ◌&&◌, ◌||◌, nat_le, if◌then◌else◌, List, [], ◌∷◌, ◌++◌, map, Option, Some, None, IsTrue, codes}
+use Rattle.std.specs.Prelude.{◌≡◌, ℕ, Bool, false, not, ◌==◌, ◌&&◌, ◌||◌, nat_le, if◌then◌else◌, List, [], ◌∷◌, ◌++◌, Option, Some, None, IsTrue, codes}
 use Rattle.std.specs.List.{AllByRecursion, flat_map}
 use Rattle.vg_base.specs.World.{is_word_byte}
 use Rattle.vg_base.specs.declared.small.Token.{Token}
