@@ -108,6 +108,7 @@ planned_files file f g calls files (course.back s c a h) is chain = let w = all_
 pub record EntriesSo (files after : Files) (added : List Call) : Type 0 where
   pub read : (name bytes : List ℕ) (more : List Call) → added ≡ Read name (Ok bytes) ∷ more → files name ≡ Some bytes
   pub wrote : (first : Call) (name bytes : List ℕ) (more : List Call) → added ≡ first ∷ Write name bytes (Ok tt) ∷ more → after name ≡ Some bytes
+  pub unread : (name : List ℕ) (x : FolderFault) (more : List Call) → added ≡ Read name (Err x) ∷ more → after ≡ files
 
 same_read : (files : Files) (file source name bytes : List ℕ) (calls more : List Call) → files file ≡ Some source → Read file (Ok source) ∷ calls ≡ Read name (Ok bytes) ∷ more → files name ≡ Some bytes
 same_read files file source name bytes calls more holds e =
@@ -122,32 +123,34 @@ same_write after target c name bytes one first calls more holds e =
     ap after (sym n) ∙ holds ∙ ap Some b
 
 no_entry : (files after : Files) → EntriesSo files after []
-no_entry files after = record { read = λ name bytes more e. cc; wrote = λ first name bytes more e. cc }
+no_entry files after = record { read = λ name bytes more e. cc; wrote = λ first name bytes more e. cc; unread = λ name x more e. cc }
 
 -- the source was read, and no write was answered Ok
 source_entry : (files after : Files) (file source : List ℕ) → files file ≡ Some source → EntriesSo files after (Read file (Ok source) ∷ [])
 source_entry files after file source holds =
-    record { read = λ name bytes more e. same_read files file source name bytes [] more holds e; wrote = λ first name bytes more e. cc }
+    record { read = λ name bytes more e. same_read files file source name bytes [] more holds e; wrote = λ first name bytes more e. cc; unread = λ name y more e. cc }
 
 unwritten_entry : (files after : Files) (file source target c : List ℕ) (x : FolderFault) → files file ≡ Some source → EntriesSo files after (Read file (Ok source) ∷ Write target c (Err x) ∷ [])
 unwritten_entry files after file source target c x holds =
-    record { read = λ name bytes more e. same_read files file source name bytes _ more holds e; wrote = λ first name bytes more e. cc }
+    record { read = λ name bytes more e. same_read files file source name bytes _ more holds e; wrote = λ first name bytes more e. cc; unread = λ name y more e. cc }
 
-unread_entry : (files after : Files) (file : List ℕ) (x : FolderFault) → EntriesSo files after (Read file (Err x) ∷ [])
-unread_entry files after file x = record { read = λ name bytes more e. cc; wrote = λ first name bytes more e. cc }
+unread_entry : (files after : Files) (file : List ℕ) (x : FolderFault) → after ≡ files → EntriesSo files after (Read file (Err x) ∷ [])
+unread_entry files after file x same =
+    record { read = λ name bytes more e. cc; wrote = λ first name bytes more e. cc; unread = λ name y more e. same }
 
 both_entries : (files after : Files) (file source target c : List ℕ) (calls : List Call) → files file ≡ Some source → after target ≡ Some c → EntriesSo files after (Read file (Ok source) ∷ Write target c (Ok tt) ∷ calls)
 both_entries files after file source target c calls holds there =
     record {
       read = λ name bytes more e. same_read files file source name bytes _ more holds e;
       wrote = λ first name bytes more e. same_write after target c name bytes _ first calls more there e;
+      unread = λ name y more e. cc;
     }
 
-read_entries : (files after : Files) (file : List ℕ) (a : Result (List ℕ) FolderFault) → IsAnswer files file a → EntriesSo files after (entries (Read file a ∷ []))
-read_entries files after file (Ok s) holds = source_entry files after file s holds
-read_entries files after file (Err fault.Missing) holds = unread_entry files after file fault.Missing
-read_entries files after file (Err fault.Failed) holds = unread_entry files after file fault.Failed
-read_entries files after file (Err fault.Memory) holds = no_entry files after
+read_entries : (files after : Files) (file : List ℕ) (a : Result (List ℕ) FolderFault) → after ≡ files → IsAnswer files file a → EntriesSo files after (entries (Read file a ∷ []))
+read_entries files after file (Ok s) same holds = source_entry files after file s holds
+read_entries files after file (Err fault.Missing) same holds = unread_entry files after file fault.Missing same
+read_entries files after file (Err fault.Failed) same holds = unread_entry files after file fault.Failed same
+read_entries files after file (Err fault.Memory) same holds = no_entry files after
 
 write_entries : (files after : Files) (file source target c : List ℕ) (a : Result (Unit {0}) FolderFault) → files file ≡ Some source → (a ≡ Ok tt → after target ≡ Some c) → EntriesSo files after (entries (Read file (Ok source) ∷ Write target c a ∷ []))
 write_entries files after file source target c (Ok x) holds there = both_entries files after file source target c [] holds (there refl)
@@ -156,12 +159,15 @@ write_entries files after file source target c (Err fault.Failed) holds there = 
 write_entries files after file source target c (Err fault.Memory) holds there = source_entry files after file source holds
 
 -- the files behind calls are one function
+same_after : (o : Option Files) (a b : Files) → o ≡ Some a → o ≡ Some b → b ≡ a
+same_after o a b e h = cc
+
 one_after : (o : Option Files) (a b : Files) (name : List ℕ) → o ≡ Some a → o ≡ Some b → b name ≡ a name
 one_after o a b name e h = let same : b ≡ a = cc in ap (λ (files : Files). files name) same
 
 pub planned_entries : (file : List ℕ) (f g : FolderView) (calls : List Call) (files after : Files) → IsPlanned file calls → After f files → Chain f calls g → After g after → EntriesSo files after (entries calls)
 planned_entries file f g calls files after course.none is chain there = no_entry files after
-planned_entries file f g calls files after (course.source a) is chain there = read_entries files after file a (read_alone f g files file a is chain).1
+planned_entries file f g calls files after (course.source a) is chain there = let r = read_alone f g files file a is chain in read_entries files after file a (same_after g.files files after r.0 there) r.1
 planned_entries file f g calls files after (course.written s c a h) is chain there =
     let w = read_and_write f g files file s c a is chain in
     write_entries files after file s (c_file file) c a w.holds (λ ok. one_after g.files w.after after (c_file file) w.told there ∙ w.writes.written ok)
@@ -374,6 +380,7 @@ file_told words file files f g answer named source e e' status is t s end =
       told_calls = t.told_calls;
       read = (t.entries_so s.after s.told).read;
       wrote = (t.entries_so s.after s.told).wrote;
+      unread = (t.entries_so s.after s.told).unread;
       planned = t.planned;
       others = λ name other. s.others name (λ h. other (file, is, h));
       same = λ h. s.same (nothing_answered answer named source e e' status.kind end h);
@@ -399,6 +406,7 @@ untouched words files f g answer named source e e' status t is (inl h) end =
       told_calls = t.told_calls;
       read = (t.entries_so files is).read;
       wrote = (t.entries_so files is).wrote;
+      unread = (t.entries_so files is).unread;
       planned = t.planned;
       others = λ name other. refl;
       same = λ x. refl;
@@ -427,6 +435,7 @@ untouched words files f g answer named source e e' status t is (inr h) end =
       told_calls = t.told_calls;
       read = (t.entries_so files is).read;
       wrote = (t.entries_so files is).wrote;
+      unread = (t.entries_so files is).unread;
       planned = t.planned;
       others = λ name other. refl;
       same = λ x. refl;

@@ -171,11 +171,13 @@ RefusedUnless r k = (k ≡ kind.Refused r) ⊎ ((k ≡ kind.ReadFault) ⊎ (k �
 pub record ToldFiles (words : List (List ℕ)) (files : Files) (f f' : FolderView) (status : Status) : Type 0 where
   pub after : Files
   pub told : f'.files ≡ Some after
-  -- its calls, which it tells too: what was read is what the files held, and what was written is what they hold
+  -- its calls, which it tells too: what was read is what the files held, what was written is what they hold,
+  -- and nothing changed where the first read was refused
   pub added : List Call
   pub told_calls : AddsCalls f added f'
   pub read : (name bytes : List ℕ) (more : List Call) → added ≡ Read name (Ok bytes) ∷ more → files name ≡ Some bytes
   pub wrote : (first : Call) (name bytes : List ℕ) (more : List Call) → added ≡ first ∷ Write name bytes (Ok tt) ∷ more → after name ≡ Some bytes
+  pub unread : (name : List ℕ) (x : FolderFault) (more : List Call) → added ≡ Read name (Err x) ∷ more → after ≡ files
   pub planned : (file : List ℕ) → IsRun words file → IsPlanned file added
   -- no file but the C file of the words changes
   pub others : (name : List ℕ) → (IsCFile words name → ⊥) → after name ≡ files name
