@@ -1,0 +1,3 @@
+mod ByteLemmas
+mod FitLemmas
+mod NextLemmas

@@ -1,0 +1,10 @@
+pub mod Spelling
+pub mod Pieces
+pub mod Bytes
+pub mod Words
+pub mod Signs
+pub mod Numbers
+pub mod Texts
+pub mod Blanks
+pub mod Cut
+pub mod Tokens
