@@ -182,7 +182,7 @@ ending_within ending.Quotes z h = there (λ b. b == 34) z 1 refl (and_parts (get
 quotes_within : (z : List ℕ) → starts_with_quotes z ≡ true → 2 < length z
 quotes_within z h = there (λ b. b == 34) z 2 refl (and_parts (get_or z 0 0 == 34 && get_or z 1 0 == 34) (get_or z 2 0 == 34) h).1
 
-place_is : (e : Ending) (z : List ℕ) (n : ℕ) → place_of e z ≡ Some n → is_ending e (drop n z) ≡ true
+pub place_is : (e : Ending) (z : List ℕ) (n : ℕ) → place_of e z ≡ Some n → is_ending e (drop n z) ≡ true
 place_is e [] n h = absurd cc
 place_is e (b ∷ z) n given = cond_both (is_ending e (b ∷ z)) _ _ (λ o. o ≡ Some n → is_ending e (drop n (b ∷ z)) ≡ true) (λ k h. first n (let same : 0 ≡ n = cc in same) k) (λ k h. later (place_of e z) (λ m f. place_is e z m f) h) given
   where

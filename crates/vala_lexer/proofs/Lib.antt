@@ -1,3 +1,4 @@
 mod ByteLemmas
 mod FitLemmas
 mod NextLemmas
+mod CoverLemmas

@@ -8,3 +8,4 @@ pub mod Texts
 pub mod Blanks
 pub mod Cut
 pub mod Tokens
+pub mod Laws

@@ -5,6 +5,7 @@ mod blanks;
 mod bytes;
 mod cursor;
 mod cut;
+mod laws;
 mod lexer;
 mod numbers;
 mod pieces;
@@ -16,4 +17,5 @@ mod token;
 mod words;
 
 pub use cursor::Lexer;
+pub use laws::{one_list_of_tokens, tokens_cover};
 pub use token::{IntegerType, Token, TokenKind};
