@@ -2,3 +2,4 @@ mod ByteLemmas
 mod FitLemmas
 mod NextLemmas
 mod CoverLemmas
+mod LongestLemmas

@@ -9,3 +9,4 @@ pub mod Blanks
 pub mod Cut
 pub mod Tokens
 pub mod Laws
+pub mod Written

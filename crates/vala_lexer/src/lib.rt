@@ -17,5 +17,5 @@ mod token;
 mod words;
 
 pub use cursor::Lexer;
-pub use laws::{one_list_of_tokens, tokens_cover};
+pub use laws::{each_token_is_longest, one_list_of_tokens, tokens_cover};
 pub use token::{IntegerType, Token, TokenKind};
