@@ -1,7 +1,7 @@
 -- A text has one list of tokens, and it covers the text.
-use Rattle.std.proofs.Common.{◌≡◌, ◌≢◌, ℕ, zero, suc, ◌+◌, ◌-◌, ◌<◌, ◌≤◌, Bool, true, false, cond, not, ◌||◌, ◌&&◌, ◌==◌, nat_lt, nat_le, List, [], ◌∷◌, ◌++◌, length, take, drop, get_or, append_assoc, append-nil, Option, Some, None, Result, Ok, Err, IsTrue, refl, sym, ap, ap₂, subst, ◌∙◌, arith}
+use Rattle.std.proofs.Common.{◌≡◌, ℕ, zero, suc, ◌+◌, ◌-◌, ◌<◌, ◌≤◌, Bool, true, false, cond, not, ◌&&◌, ◌==◌, nat_lt, nat_le, List, [], ◌∷◌, ◌++◌, length, take, drop, get_or, append_assoc, append-nil, Option, Some, None, Result, Ok, Err, refl, sym, ap, ap₂, subst, ◌∙◌, arith}
 use Rattle.std.specs.Option.{option_map}
-use Rattle.std.proofs.lemmas.Bool.{cond_both, and_parts, eqb-true, ltb-false, ne_eqb, leb-true, leb-false}
+use Rattle.std.proofs.lemmas.Bool.{cond_both, and_parts, eqb-true, ltb-false, leb-true, leb-false}
 use Rattle.std.proofs.lemmas.List.{take-append-drop, length-drop, length-take-le, drop-drop, length-append}
 use Rattle.static_rules.specs.declared.rules.Refusal.{Refusal}
 use Rattle.vala_lexer.specs.declared.bytes.Class.{Class}
@@ -13,7 +13,7 @@ use Rattle.vala_lexer.specs.Bytes.{is_in, is_space, run, place_of, is_ending}
 use Rattle.vala_lexer.specs.Pieces.{bad_byte}
 use Rattle.vala_lexer.specs.Blanks.{comment, block_comment_to, blank, blanks_then, blanks_within, blanks}
 use Rattle.vala_lexer.specs.Cut.{cut}
-use Rattle.vala_lexer.specs.Tokens.{Left, Lexeme, Answer, next_of, next_behind, token_at, found_at, refusal, span, behind, Tokens, end, broken, token}
+use Rattle.vala_lexer.specs.Tokens.{Left, Lexeme, Answer, next_of, next_behind, found_at, refusal, span, behind, Tokens, end, broken, token}
 use Rattle.vala_lexer.specs.Laws.{EndsLine, NoZero, Blanks, none, space, line, block, Covers, last, stopped, next}
 use Rattle.vala_lexer.proofs.FitLemmas.{FitsIn, BlankIn, BlankFrom, cut_fits, blank_fits, blanks_fit, run_within, comment_place, place_is}
 use Rattle.vala_lexer.proofs.NextLemmas.{TokenFound, token_found, found_within, token_ends}
@@ -73,7 +73,7 @@ two_bytes x y (c ∷ []) a b h = let same : 0 ≡ y = eqb-true 0 y (and_parts (c
 two_bytes x y (c ∷ d ∷ z) a b h = ap₂ (λ (m n : ℕ). m ∷ n ∷ z) (eqb-true c x (and_parts (c == x) (d == y) h).0) (eqb-true d y (and_parts (c == x) (d == y) h).1)
 
 -- a run that goes on to a place goes on to it also where the bytes end there
-run_front : (c : Class) (n : ℕ) (z : List ℕ) → n ≤ run c z → run c (take n z) ≡ n
+pub run_front : (c : Class) (n : ℕ) (z : List ℕ) → n ≤ run c z → run c (take n z) ≡ n
 run_front c zero z h = refl
 run_front c (suc n) [] h = absurd (omega arith)
 run_front c (suc n) (b ∷ z) given = cond_both (is_in c b) (suc (run c z)) 0 (λ m. suc n ≤ m → run c (b ∷ take n z) ≡ suc n)

@@ -1,7 +1,6 @@
 -- What is found in front of bytes lies within them.
-use Rattle.std.proofs.Common.{◌≡◌, ◌≢◌, ℕ, zero, suc, ◌+◌, ◌-◌, ◌<◌, ◌≤◌, Bool, true, false, cond, not, ◌||◌, ◌&&◌, ◌==◌, nat_lt, nat_le, List, [], ◌∷◌, length, take, drop, get_or, Option, Some, None, Result, Ok, Err, refl, sym, ap, subst, ◌∙◌, option_and_then, is_some, arith}
+use Rattle.std.proofs.Common.{◌≡◌, ◌≢◌, ℕ, zero, suc, ◌+◌, ◌-◌, ◌<◌, ◌≤◌, Bool, true, false, cond, not, ◌||◌, ◌&&◌, ◌==◌, nat_lt, nat_le, List, [], ◌∷◌, length, take, drop, get_or, Option, Some, None, Result, Ok, Err, refl, sym, ap, subst, ◌∙◌, option_and_then, arith}
 use Rattle.std.specs.Option.{option_map}
-use Rattle.std.specs.Str.Lossy.{utf8_valid_len}
 use Rattle.std.proofs.lemmas.Bool.{cond_both, and_parts, or_right, eqb-true, eqb-false, ltb-true, ltb-false, lt-ltb, ne_eqb}
 use Rattle.std.proofs.lemmas.List.{get_or_past, length-drop, length-take-le, drop-drop}
 use Rattle.vala_lexer.specs.declared.token.TokenKind.{TokenKind}
@@ -17,11 +16,11 @@ use Rattle.vala_lexer.specs.declared.pieces.Found.{Found}
 use Rattle.vala_lexer.specs.declared.pieces.Fault.{Fault}
 use Rattle.vala_lexer.specs.Bytes.{is_in, is_letter, is_digit, is_hex_digit, run, is_ending, place_of, starts_with_quotes, in_64_bits, value}
 use Rattle.vala_lexer.specs.Words.{word_kind, is_identifier}
-use Rattle.vala_lexer.specs.Signs.{sign, sign_of_one, sign_of_two, sign_of_three, sign_with_equals, doubled_sign, or_shorter}
+use Rattle.vala_lexer.specs.Signs.{sign_of_one, sign_of_two, sign_of_three, doubled_sign, or_shorter}
 use Rattle.vala_lexer.specs.Numbers.{is_u, is_l, suffix_of, suffix_len, integer_type, integer_of, integer, hexadecimal, decimal, is_fraction, is_prefixed, number}
-use Rattle.vala_lexer.specs.Texts.{inside, inside_behind, sound_bytes, sound_escapes, checked, plain_text_of, plain_text, verbatim_text_of, verbatim_text, text, character_of, escaped_character, character_inside, character_between, character, escape}
+use Rattle.vala_lexer.specs.Texts.{inside, inside_behind, sound_bytes, sound_escapes, checked, plain_text_of, verbatim_text_of, text, escaped_character, character_inside, character_between, character, escape}
 use Rattle.vala_lexer.specs.Pieces.{moved}
-use Rattle.vala_lexer.specs.Blanks.{comment, block_comment_to, block_comment, blank, blanks_then, blanks_within, blanks}
+use Rattle.vala_lexer.specs.Blanks.{comment, block_comment_to, blank, blanks_then, blanks_within, blanks}
 use Rattle.vala_lexer.specs.Cut.{word, marked_word, sign_or_bad, sign_or_bad_of, hash, begins_line, cut}
 
 -- a token has a byte at least, and a token and a fault lie within a number of bytes
@@ -38,12 +37,12 @@ pub run_within : (c : Class) (z : List ℕ) → run c z ≤ length z
 run_within c [] = omega arith
 run_within c (b ∷ z) = cond_both (is_in c b) (suc (run c z)) 0 (λ n. n ≤ length (b ∷ z)) (λ h. let more : run c z ≤ length z = run_within c z in omega arith) (λ h. omega arith)
 
-run_some : (c : Class) (z : List ℕ) → 0 < length z → is_in c (get_or z 0 0) ≡ true → 0 < run c z
+pub run_some : (c : Class) (z : List ℕ) → 0 < length z → is_in c (get_or z 0 0) ≡ true → 0 < run c z
 run_some c [] some h = absurd (omega arith)
 run_some c (b ∷ z) some h = rw h (omega arith)
 
 -- a byte that passes a test that 0 does not pass stands within
-there : (P : ℕ → Bool) (z : List ℕ) (i : ℕ) → P 0 ≡ false → P (get_or z i 0) ≡ true → i < length z
+pub there : (P : ℕ → Bool) (z : List ℕ) (i : ℕ) → P 0 ≡ false → P (get_or z i 0) ≡ true → i < length z
 there P z i none h = go (nat_lt i (length z)) refl
   where
     go : (t : Bool) → nat_lt i (length z) ≡ t → i < length z
@@ -80,12 +79,12 @@ doubled_some : (b : ℕ) (k : TokenKind) → doubled_sign b ≡ Some k → 0 < b
 doubled_some zero k h = absurd cc
 doubled_some (suc b) k h = omega arith
 
-two_some : (b c : ℕ) (k : TokenKind) → sign_of_two b c ≡ Some k → 0 < c
+pub two_some : (b c : ℕ) (k : TokenKind) → sign_of_two b c ≡ Some k → 0 < c
 two_some b c k = cond_both (c == 61) _ _ (λ o. o ≡ Some k → 0 < c) (λ e h. let is : c ≡ 61 = eqb-true c 61 e in omega arith)
     (λ e. cond_both (b == c) _ _ (λ o. o ≡ Some k → 0 < c) (λ f h. let same : b ≡ c = eqb-true b c f in let some : 0 < b = doubled_some b k h in omega arith)
     (λ f. cond_both (b == 61 && c == 62) _ _ (λ o. o ≡ Some k → 0 < c) (λ g h. let is : c ≡ 62 = eqb-true c 62 (and_parts (b == 61) (c == 62) g).1 in omega arith) (λ g h. absurd cc)))
 
-three_some : (b c d : ℕ) (k : TokenKind) → sign_of_three b c d ≡ Some k → 0 < d
+pub three_some : (b c d : ℕ) (k : TokenKind) → sign_of_three b c d ≡ Some k → 0 < d
 three_some b c d k = cond_both (b == 60 && c == 60 && d == 61) _ _ (λ o. o ≡ Some k → 0 < d) (λ e h. let is : d ≡ 61 = last 60 60 61 e in omega arith)
     (λ e. cond_both (b == 62 && c == 62 && d == 61) _ _ (λ o. o ≡ Some k → 0 < d) (λ f h. let is : d ≡ 61 = last 62 62 61 f in omega arith)
     (λ f. cond_both (b == 46 && c == 46 && d == 46) _ _ (λ o. o ≡ Some k → 0 < d) (λ g h. let is : d ≡ 46 = last 46 46 46 g in omega arith) (λ g h. absurd cc)))
@@ -93,7 +92,7 @@ three_some b c d k = cond_both (b == 60 && c == 60 && d == 61) _ _ (λ o. o ≡ 
     last : (x y w : ℕ) → (b == x && c == y && d == w) ≡ true → d ≡ w
     last x y w e = eqb-true d w (and_parts (b == x && c == y) (d == w) e).1
 
-within_two : (z : List ℕ) (i : ℕ) → 0 < get_or z i 0 → i < length z
+pub within_two : (z : List ℕ) (i : ℕ) → 0 < get_or z i 0 → i < length z
 within_two z i h = there (λ b. nat_lt 0 b) z i refl (lt-ltb 0 (get_or z i 0) h)
 
 pub sign_fits : (z : List ℕ) → 0 < length z → FitsIn (length z) (sign_or_bad z)
@@ -114,7 +113,7 @@ sign_fits z some = three (sign_of_three (get_or z 0 0) (get_or z 1 0) (get_or z 
 
 -- ---- numbers
 
-suffix_within : (z : List ℕ) → suffix_len (suffix_of z) ≤ length z
+pub suffix_within : (z : List ℕ) → suffix_len (suffix_of z) ≤ length z
 suffix_within z =
     cond_both (is_u (get_or z 0 0)) _ _ P
     (λ u. let one : 0 < length z = there is_u z 0 refl u in
@@ -175,11 +174,11 @@ inside_within e q (b ∷ z) n given = cond_both (b == 10) _ _ (λ o. o ≡ Some 
     (λ k. cond_both (b == q && not e) _ _ (λ o. o ≡ Some n → n < length (b ∷ z)) (λ l h. let same : 0 ≡ n = cc in omega arith)
     (λ l h. unfolding_below (length z) (inside_behind (b == 92 && not e) q z) (λ m f. inside_within (b == 92 && not e) q z m f) n h)) given
 
-ending_within : (e : Ending) (z : List ℕ) → is_ending e z ≡ true → 1 < length z
+pub ending_within : (e : Ending) (z : List ℕ) → is_ending e z ≡ true → 1 < length z
 ending_within ending.Comment z h = there (λ b. b == 47) z 1 refl (and_parts (get_or z 0 0 == 42) (get_or z 1 0 == 47) h).1
 ending_within ending.Quotes z h = there (λ b. b == 34) z 1 refl (and_parts (get_or z 0 0 == 34) (get_or z 1 0 == 34) (and_parts (get_or z 0 0 == 34 && get_or z 1 0 == 34) (get_or z 2 0 == 34) h).0).1
 
-quotes_within : (z : List ℕ) → starts_with_quotes z ≡ true → 2 < length z
+pub quotes_within : (z : List ℕ) → starts_with_quotes z ≡ true → 2 < length z
 quotes_within z h = there (λ b. b == 34) z 2 refl (and_parts (get_or z 0 0 == 34 && get_or z 1 0 == 34) (get_or z 2 0 == 34) h).1
 
 pub place_is : (e : Ending) (z : List ℕ) (n : ℕ) → place_of e z ≡ Some n → is_ending e (drop n z) ≡ true

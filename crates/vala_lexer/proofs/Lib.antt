@@ -3,3 +3,5 @@ mod FitLemmas
 mod NextLemmas
 mod CoverLemmas
 mod LongestLemmas
+mod WrittenLemmas
+mod SpellingLemmas

@@ -1,7 +1,7 @@
 -- No token that stands in front of bytes is longer than the one that is found.
-use Rattle.std.proofs.Common.{◌≡◌, ◌≢◌, ℕ, zero, suc, ◌+◌, ◌-◌, ◌*◌, ◌^◌, ◌<◌, ◌≤◌, Bool, true, false, cond, not, ◌||◌, ◌&&◌, ◌==◌, nat_lt, nat_le, List, [], ◌∷◌, ◌++◌, length, take, drop, get_or, append_assoc, append-nil, Option, Some, None, Result, Ok, Err, IsTrue, refl, sym, ap, ap₂, subst, ◌∙◌, option_and_then, arith}
+use Rattle.std.proofs.Common.{◌≡◌, ℕ, suc, ◌+◌, ◌<◌, ◌≤◌, Bool, true, false, cond, not, ◌||◌, ◌&&◌, ◌==◌, nat_lt, nat_le, List, [], ◌∷◌, ◌++◌, length, take, drop, get_or, append_assoc, Option, Some, None, Result, Ok, Err, refl, sym, ap, ap₂, subst, ◌∙◌, option_and_then, arith}
 use Rattle.std.specs.Option.{option_map}
-use Rattle.std.proofs.lemmas.Bool.{cond_both, and_parts, or_right, eqb-true, eqb-false, ltb-true, ltb-false, leb-true, lt-leb, ne_eqb, eq-eqb, cond-true, cond-false, or_from, and_left}
+use Rattle.std.proofs.lemmas.Bool.{cond_both, and_parts, eqb-true, leb-true, lt-leb, ne_eqb, cond-true, cond-false, or_from, and_left}
 use Rattle.std.proofs.lemmas.List.{length-append}
 use Rattle.vala_lexer.specs.declared.token.IntegerType.{IntegerType}
 use Rattle.vala_lexer.specs.declared.token.TokenKind.{TokenKind}
@@ -9,16 +9,14 @@ use Rattle.vala_lexer.specs.declared.token.TokenKind.TheVariants as k
 use Rattle.vala_lexer.specs.declared.bytes.Class.{Class}
 use Rattle.vala_lexer.specs.declared.bytes.Class.TheVariants as class
 use Rattle.vala_lexer.specs.declared.bytes.Ending.TheVariants as ending
-use Rattle.vala_lexer.specs.declared.numbers.Suffix.{Suffix}
 use Rattle.vala_lexer.specs.declared.numbers.Suffix.TheVariants as suffix
 use Rattle.vala_lexer.specs.declared.pieces.Found.{Found}
 use Rattle.vala_lexer.specs.declared.pieces.Fault.{Fault}
-use Rattle.vala_lexer.specs.Pieces.{fault, bad_byte}
 use Rattle.vala_lexer.specs.Bytes.{is_in, is_letter, is_digit, is_hex_digit, run, is_ending, place_of, starts_with_quotes, in_64_bits, value}
 use Rattle.vala_lexer.specs.Words.{word_kind, is_identifier}
-use Rattle.vala_lexer.specs.Signs.{sign, sign_of_one, sign_of_two, sign_of_three, sign_with_equals, doubled_sign, or_shorter}
+use Rattle.vala_lexer.specs.Signs.{sign_of_one, sign_of_two, sign_of_three, sign_with_equals, doubled_sign, or_shorter}
 use Rattle.vala_lexer.specs.Numbers.{is_u, is_l, suffix_of, suffix_len, integer_type, integer_of, integer, hexadecimal, decimal, is_fraction, is_prefixed, number}
-use Rattle.vala_lexer.specs.Texts.{inside, inside_behind, sound_bytes, sound_escapes, checked, plain_text_of, plain_text, verbatim_text_of, verbatim_text, text, character_of, character_inside, character_between, character}
+use Rattle.vala_lexer.specs.Texts.{inside, inside_behind, sound_bytes, sound_escapes, checked, plain_text_of, plain_text, verbatim_text_of, verbatim_text, text, character_inside, character_between, character}
 use Rattle.vala_lexer.specs.Cut.{word, marked_word, sign_or_bad, sign_or_bad_of, hash, cut}
 use Rattle.vala_lexer.specs.Written.{IsWord, IsDecimal, IsHexadecimal, IsSuffix, IsToken}
 use Rattle.vala_lexer.specs.Written as written
@@ -52,11 +50,11 @@ take_front (b ∷ u) v = ap (λ w. b ∷ w) (take_front u v)
 -- ---- words
 
 module _ (front z : List ℕ) (t : Found) where
-  cut_word : is_letter (get_or z 0 0) ≡ true → cut front z ≡ Ok t → word z ≡ Ok t
+  pub cut_word : is_letter (get_or z 0 0) ≡ true → cut front z ≡ Ok t → word z ≡ Ok t
   unfolding cut
   cut_word h e = sym (cond-true (is_letter (get_or z 0 0)) (word z) _ h) ∙ e
 
-  cut_number : is_letter (get_or z 0 0) ≡ false → is_digit (get_or z 0 0) ≡ true → cut front z ≡ Ok t → number z ≡ Ok t
+  pub cut_number : is_letter (get_or z 0 0) ≡ false → is_digit (get_or z 0 0) ≡ true → cut front z ≡ Ok t → number z ≡ Ok t
   unfolding cut
   cut_number n h e = sym (cond-true (is_digit (get_or z 0 0)) (number z) _ h) ∙ sym (cond-false (is_letter (get_or z 0 0)) (word z) _ n) ∙ e
 
@@ -157,7 +155,7 @@ u_no_hex b = either (λ x. is_hex_digit x ≡ false) b 85 117 refl refl
 l_no_hex : (b : ℕ) → is_l b ≡ true → is_hex_digit b ≡ false
 l_no_hex b = either (λ x. is_hex_digit x ≡ false) b 76 108 refl refl
 
-digit_no_letter : (b : ℕ) → is_digit b ≡ true → is_letter b ≡ false
+pub digit_no_letter : (b : ℕ) → is_digit b ≡ true → is_letter b ≡ false
 digit_no_letter b h =
     let small : b ≤ 57 = leb-true b 57 (and_parts (nat_le 48 b) (nat_le b 57) h).1 in
     or_from ((nat_le 65 b && nat_le b 90) || b == 95) (nat_le 97 b && nat_le b 122)
@@ -229,7 +227,7 @@ checked_len : (q n b e : ℕ) (t : Found) → checked q n b e ≡ Ok t → q + n
 checked_len q n b e t = cond_both (nat_lt b n && nat_le b e) _ _ (λ r. r ≡ Ok t → q + n + q ≡ t.len) (λ _ h. absurd cc)
     (λ _. cond_both (nat_lt e n) _ _ (λ r. r ≡ Ok t → q + n + q ≡ t.len) (λ _ h. absurd cc) (λ _ h. (let same : record { kind = k.Text; len = q + n + q } ≡ t = cc in ap (λ (x : Found). x.len) same)))
 
-suc_some : (o : Option ℕ) (n : ℕ) → option_map (λ m. suc m) o ≡ Some (suc n) → o ≡ Some n
+pub suc_some : (o : Option ℕ) (n : ℕ) → option_map (λ m. suc m) o ≡ Some (suc n) → o ≡ Some n
 suc_some None n h = absurd cc
 suc_some (Some m) n h = cc
 
@@ -319,7 +317,7 @@ module _ (b : ℕ) (kind : TokenKind) where
   abbrev P : Option TokenKind → Type 0
   P o = o ≡ Some kind → IsPlain b
 
-  plain_one : P (sign_of_one b)
+  pub plain_one : P (sign_of_one b)
   plain_one = cond_both (b == 123) _ _ P (λ e h. subst IsPlain (sym (eqb-true b 123 e)) (refl, refl, refl, refl, refl, refl)) (λ _. cond_both (b == 125) _ _ P (λ e h. subst IsPlain (sym (eqb-true b 125 e)) (refl, refl, refl, refl, refl, refl)) (λ _. cond_both (b == 40) _ _ P (λ e h. subst IsPlain (sym (eqb-true b 40 e)) (refl, refl, refl, refl, refl, refl)) (λ _. cond_both (b == 41) _ _ P (λ e h. subst IsPlain (sym (eqb-true b 41 e)) (refl, refl, refl, refl, refl, refl)) (λ _. cond_both (b == 91) _ _ P (λ e h. subst IsPlain (sym (eqb-true b 91 e)) (refl, refl, refl, refl, refl, refl)) (λ _. cond_both (b == 93) _ _ P (λ e h. subst IsPlain (sym (eqb-true b 93 e)) (refl, refl, refl, refl, refl, refl)) (λ _. cond_both (b == 44) _ _ P (λ e h. subst IsPlain (sym (eqb-true b 44 e)) (refl, refl, refl, refl, refl, refl)) (λ _. cond_both (b == 59) _ _ P (λ e h. subst IsPlain (sym (eqb-true b 59 e)) (refl, refl, refl, refl, refl, refl)) (λ _. cond_both (b == 58) _ _ P (λ e h. subst IsPlain (sym (eqb-true b 58 e)) (refl, refl, refl, refl, refl, refl)) (λ _. cond_both (b == 46) _ _ P (λ e h. subst IsPlain (sym (eqb-true b 46 e)) (refl, refl, refl, refl, refl, refl)) (λ _. cond_both (b == 63) _ _ P (λ e h. subst IsPlain (sym (eqb-true b 63 e)) (refl, refl, refl, refl, refl, refl)) (λ _. cond_both (b == 61) _ _ P (λ e h. subst IsPlain (sym (eqb-true b 61 e)) (refl, refl, refl, refl, refl, refl)) (λ _. cond_both (b == 60) _ _ P (λ e h. subst IsPlain (sym (eqb-true b 60 e)) (refl, refl, refl, refl, refl, refl)) (λ _. cond_both (b == 62) _ _ P (λ e h. subst IsPlain (sym (eqb-true b 62 e)) (refl, refl, refl, refl, refl, refl)) (λ _. cond_both (b == 43) _ _ P (λ e h. subst IsPlain (sym (eqb-true b 43 e)) (refl, refl, refl, refl, refl, refl)) (λ _. cond_both (b == 45) _ _ P (λ e h. subst IsPlain (sym (eqb-true b 45 e)) (refl, refl, refl, refl, refl, refl)) (λ _. cond_both (b == 42) _ _ P (λ e h. subst IsPlain (sym (eqb-true b 42 e)) (refl, refl, refl, refl, refl, refl)) (λ _. cond_both (b == 47) _ _ P (λ e h. subst IsPlain (sym (eqb-true b 47 e)) (refl, refl, refl, refl, refl, refl)) (λ _. cond_both (b == 37) _ _ P (λ e h. subst IsPlain (sym (eqb-true b 37 e)) (refl, refl, refl, refl, refl, refl)) (λ _. cond_both (b == 38) _ _ P (λ e h. subst IsPlain (sym (eqb-true b 38 e)) (refl, refl, refl, refl, refl, refl)) (λ _. cond_both (b == 124) _ _ P (λ e h. subst IsPlain (sym (eqb-true b 124 e)) (refl, refl, refl, refl, refl, refl)) (λ _. cond_both (b == 94) _ _ P (λ e h. subst IsPlain (sym (eqb-true b 94 e)) (refl, refl, refl, refl, refl, refl)) (λ _. cond_both (b == 33) _ _ P (λ e h. subst IsPlain (sym (eqb-true b 33 e)) (refl, refl, refl, refl, refl, refl)) (λ _. cond_both (b == 126) _ _ P (λ e h. subst IsPlain (sym (eqb-true b 126 e)) (refl, refl, refl, refl, refl, refl)) (λ _. λ h. absurd cc))))))))))))))))))))))))
 
   plain_equals : P (sign_with_equals b)
@@ -328,17 +326,17 @@ module _ (b : ℕ) (kind : TokenKind) where
   plain_doubled : P (doubled_sign b)
   plain_doubled = cond_both (b == 63) _ _ P (λ e h. subst IsPlain (sym (eqb-true b 63 e)) (refl, refl, refl, refl, refl, refl)) (λ _. cond_both (b == 38) _ _ P (λ e h. subst IsPlain (sym (eqb-true b 38 e)) (refl, refl, refl, refl, refl, refl)) (λ _. cond_both (b == 124) _ _ P (λ e h. subst IsPlain (sym (eqb-true b 124 e)) (refl, refl, refl, refl, refl, refl)) (λ _. cond_both (b == 60) _ _ P (λ e h. subst IsPlain (sym (eqb-true b 60 e)) (refl, refl, refl, refl, refl, refl)) (λ _. cond_both (b == 62) _ _ P (λ e h. subst IsPlain (sym (eqb-true b 62 e)) (refl, refl, refl, refl, refl, refl)) (λ _. cond_both (b == 43) _ _ P (λ e h. subst IsPlain (sym (eqb-true b 43 e)) (refl, refl, refl, refl, refl, refl)) (λ _. cond_both (b == 45) _ _ P (λ e h. subst IsPlain (sym (eqb-true b 45 e)) (refl, refl, refl, refl, refl, refl)) (λ _. λ h. absurd cc)))))))
 
-  plain_two : (c : ℕ) → P (sign_of_two b c)
+  pub plain_two : (c : ℕ) → P (sign_of_two b c)
   plain_two c = cond_both (c == 61) _ _ P (λ _. plain_equals) (λ _. cond_both (b == c) _ _ P (λ _. plain_doubled)
       (λ _. cond_both (b == 61 && c == 62) _ _ P (λ e h. subst IsPlain (sym (eqb-true b 61 (and_parts (b == 61) (c == 62) e).0)) (refl, refl, refl, refl, refl, refl)) (λ _ h. absurd cc)))
 
-  plain_three : (c d : ℕ) → P (sign_of_three b c d)
+  pub plain_three : (c d : ℕ) → P (sign_of_three b c d)
   plain_three c d =
       cond_both (b == 60 && c == 60 && d == 61) _ _ P (λ e h. subst IsPlain (sym (eqb-true b 60 (and_parts (b == 60) (c == 60) (and_parts (b == 60 && c == 60) (d == 61) e).0).0)) (refl, refl, refl, refl, refl, refl))
       (λ _. cond_both (b == 62 && c == 62 && d == 61) _ _ P (λ e h. subst IsPlain (sym (eqb-true b 62 (and_parts (b == 62) (c == 62) (and_parts (b == 62 && c == 62) (d == 61) e).0).0)) (refl, refl, refl, refl, refl, refl))
       (λ _. cond_both (b == 46 && c == 46 && d == 46) _ _ P (λ e h. subst IsPlain (sym (eqb-true b 46 (and_parts (b == 46) (c == 46) (and_parts (b == 46 && c == 46) (d == 46) e).0).0)) (refl, refl, refl, refl, refl, refl)) (λ _ h. absurd cc)))
 
-cut_sign : (front z : List ℕ) (t : Found) → IsPlain (get_or z 0 0) → cut front z ≡ Ok t → sign_or_bad z ≡ Ok t
+pub cut_sign : (front z : List ℕ) (t : Found) → IsPlain (get_or z 0 0) → cut front z ≡ Ok t → sign_or_bad z ≡ Ok t
 unfolding cut
 cut_sign front z t p e =
     sym (cond-false (get_or z 0 0 == 35) (Err (hash front)) (sign_or_bad z) p.5) ∙ sym (cond-false (get_or z 0 0 == 64) (marked_word z) _ p.4) ∙ sym (cond-false (get_or z 0 0 == 39) (character z) _ p.3)

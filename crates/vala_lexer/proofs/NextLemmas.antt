@@ -1,12 +1,12 @@
 -- The next token of what is left.
-use Rattle.std.proofs.Common.{◌≡◌, ℕ, ◌+◌, ◌-◌, ◌<◌, ◌≤◌, Bool, true, false, cond, List, length, take, drop, Option, Some, None, Result, Ok, Err, refl, sym, ap, subst, ◌∙◌, nat_le, arith}
+use Rattle.std.proofs.Common.{◌≡◌, ℕ, ◌+◌, ◌-◌, ◌<◌, ◌≤◌, Bool, true, false, cond, List, length, take, drop, Some, None, Result, Ok, Err, refl, ap, subst, ◌∙◌, nat_le, arith}
 use Rattle.std.proofs.lemmas.Bool.{le-leb, lt-leb, leb-false}
 use Rattle.std.proofs.lemmas.List.{length-drop}
 use Rattle.vala_lexer.specs.declared.pieces.Found.{Found}
 use Rattle.vala_lexer.specs.declared.pieces.Fault.{Fault}
 use Rattle.vala_lexer.specs.Blanks.{blanks}
 use Rattle.vala_lexer.specs.Cut.{cut}
-use Rattle.vala_lexer.specs.Tokens.{Left, Lexeme, Answer, span, next_of, next_behind, token_at, found_at, refusal}
+use Rattle.vala_lexer.specs.Tokens.{Left, Lexeme, span, next_of, next_behind, found_at, refusal}
 use Rattle.vala_lexer.proofs.FitLemmas.{FitsIn, BlankFrom, cut_fits, blanks_fit}
 
 module _ (l : Left) where

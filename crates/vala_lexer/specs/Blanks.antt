@@ -1,5 +1,5 @@
 -- White space and comments.
-use Rattle.std.specs.Prelude.{ℕ, zero, suc, ◌+◌, ◌-◌, ◌&&◌, ◌==◌, nat_lt, if◌then◌else◌, List, length, take, drop, Option, Some, None, Result, Ok, Err, slice_index}
+use Rattle.std.specs.Prelude.{ℕ, zero, suc, ◌+◌, ◌&&◌, ◌==◌, nat_lt, if◌then◌else◌, List, length, take, drop, Option, Some, None, Result, Ok, Err, slice_index}
 use Rattle.vala_lexer.specs.declared.bytes.Class.TheVariants.{Space, NotZero, NotLineFeed}
 use Rattle.vala_lexer.specs.declared.bytes.Ending.TheVariants.{Comment}
 use Rattle.vala_lexer.specs.declared.pieces.Fault.{Fault}

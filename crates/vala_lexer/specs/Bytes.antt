@@ -1,5 +1,5 @@
 -- Classes of bytes, how far they go, and what digits say.
-use Rattle.std.specs.Prelude.{ℕ, suc, ◌+◌, ◌-◌, ◌*◌, ◌^◌, Bool, true, not, ◌&&◌, ◌||◌, ◌==◌, nat_le, nat_lt, if◌then◌else◌, List, [], ◌∷◌, length, Option, Some, None, slice_index}
+use Rattle.std.specs.Prelude.{ℕ, suc, ◌+◌, ◌-◌, ◌*◌, ◌^◌, Bool, not, ◌&&◌, ◌||◌, ◌==◌, nat_le, nat_lt, if◌then◌else◌, List, [], ◌∷◌, length, Option, Some, None, slice_index}
 use Rattle.std.specs.Option.{option_map}
 use Rattle.vala_lexer.specs.declared.bytes.Class.{Class}
 use Rattle.vala_lexer.specs.declared.bytes.Class.TheVariants as class

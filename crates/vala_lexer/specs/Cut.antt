@@ -1,5 +1,5 @@
 -- The token in front of a text, or what is refused there.
-use Rattle.std.specs.Prelude.{ℕ, suc, ◌+◌, Bool, true, ◌&&◌, ◌||◌, ◌==◌, nat_lt, if◌then◌else◌, List, [], ◌∷◌, take, drop, Option, Some, None, Result, Ok, Err, slice_index}
+use Rattle.std.specs.Prelude.{ℕ, ◌+◌, Bool, true, ◌&&◌, ◌||◌, ◌==◌, nat_lt, if◌then◌else◌, List, [], ◌∷◌, take, drop, Option, Some, None, Result, Ok, Err, slice_index}
 use Rattle.static_rules.specs.declared.rules.Rule.TheVariants.{M4, U1}
 use Rattle.vala_lexer.specs.declared.bytes.Class.TheVariants.{Word}
 use Rattle.vala_lexer.specs.declared.token.TokenKind.{TokenKind}

@@ -1,6 +1,5 @@
 -- What the tokens of a text are: ranges that cover it, with white space and comments between them.
 use Rattle.std.specs.Prelude.{◌≡◌, ℕ, ◌+◌, ◌<◌, ◌≤◌, List, [], ◌∷◌, ◌++◌, length, Option, Some, None, IsTrue}
-use Rattle.vg_base.specs.declared.event.Span.{Span}
 use Rattle.static_rules.specs.declared.rules.Refusal.{Refusal}
 use Rattle.vala_lexer.specs.declared.bytes.Class.TheVariants.{NotZero, NotLineFeed}
 use Rattle.vala_lexer.specs.declared.bytes.Ending.TheVariants.{Comment}

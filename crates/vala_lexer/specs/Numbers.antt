@@ -1,6 +1,5 @@
 -- Numbers: their suffixes, their types, and what is refused of them.
 use Rattle.std.specs.Prelude.{ℕ, ◌+◌, ◌^◌, Bool, ◌&&◌, ◌||◌, ◌==◌, nat_lt, if◌then◌else◌, List, take, drop, Option, Some, None, Result, Ok, Err, slice_index, option_and_then}
-use Rattle.std.specs.Option.{option_map}
 use Rattle.static_rules.specs.declared.rules.Rule.TheVariants.{L4, U1}
 use Rattle.vala_lexer.specs.declared.bytes.Class.TheVariants.{Digit, HexDigit}
 use Rattle.vala_lexer.specs.declared.token.IntegerType.{IntegerType}

@@ -1,5 +1,5 @@
 -- Texts and characters: where they end, what they denote, and what is refused of them.
-use Rattle.std.specs.Prelude.{ℕ, zero, suc, ◌-◌, ◌+◌, ◌^◌, Bool, true, false, not, ◌&&◌, ◌||◌, ◌==◌, nat_le, nat_lt, if◌then◌else◌, List, [], ◌∷◌, ◌++◌, length, take, drop, Option, Some, None, is_some, Result, Ok, Err, slice_index, option_and_then}
+use Rattle.std.specs.Prelude.{ℕ, zero, suc, ◌-◌, ◌+◌, Bool, true, false, not, ◌&&◌, ◌||◌, ◌==◌, nat_le, nat_lt, if◌then◌else◌, List, [], ◌∷◌, ◌++◌, length, take, drop, Option, Some, None, is_some, Result, Ok, Err, slice_index, option_and_then}
 use Rattle.std.specs.Option.{option_map}
 use Rattle.std.specs.Char.{encode_utf8}
 use Rattle.std.specs.Str.Lossy.{utf8_valid_len}

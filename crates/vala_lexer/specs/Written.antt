@@ -1,11 +1,10 @@
 -- How the tokens of each class are written, and what the literals denote.
-use Rattle.std.specs.Prelude.{◌≡◌, ℕ, ◌+◌, ◌<◌, ◌≤◌, Bool, true, false, List, [], ◌∷◌, ◌++◌, length, Option, Some, None, Ok, IsTrue, slice_index}
+use Rattle.std.specs.Prelude.{◌≡◌, ℕ, ◌+◌, ◌<◌, ◌≤◌, true, false, List, [], ◌∷◌, ◌++◌, length, Some, Ok, slice_index}
 use Rattle.vala_lexer.specs.declared.bytes.Class.TheVariants.{Word, Digit, HexDigit}
 use Rattle.vala_lexer.specs.declared.bytes.Ending.TheVariants.{Quotes}
 use Rattle.vala_lexer.specs.declared.token.IntegerType.{IntegerType}
 use Rattle.vala_lexer.specs.declared.token.TokenKind.{TokenKind}
 use Rattle.vala_lexer.specs.declared.token.TokenKind.TheVariants as k
-use Rattle.vala_lexer.specs.declared.pieces.Found.{Found}
 use Rattle.vala_lexer.specs.Bytes.{is_letter, run, place_of, value}
 use Rattle.vala_lexer.specs.Words.{word_kind, is_identifier}
 use Rattle.vala_lexer.specs.Signs.{sign_of_one, sign_of_two, sign_of_three}

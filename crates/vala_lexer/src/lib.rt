@@ -17,5 +17,7 @@ mod token;
 mod words;
 
 pub use cursor::Lexer;
-pub use laws::{each_token_is_longest, one_list_of_tokens, tokens_cover};
+pub use laws::{
+    each_token_is_longest, keywords_and_signs_are_spelled, one_list_of_tokens, tokens_cover,
+};
 pub use token::{IntegerType, Token, TokenKind};

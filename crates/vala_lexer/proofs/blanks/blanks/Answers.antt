@@ -1,4 +1,4 @@
-use Rattle.std.proofs.Common.{◌≡◌, ◌≤◌, ◌+◌, ◌<◌, List, ℕ, ◌≢◌, length, drop, refl, ap, sym, ◌∙◌, arith, Ok, Err}
+use Rattle.std.proofs.Common.{◌≤◌, ◌+◌, ◌≢◌, length, ap, sym, ◌∙◌, arith}
 use Rattle.vala_lexer.specs.Blanks.{blank}
 use Rattle.vala_lexer.proofs.FitLemmas.{blanks_begin, blanks_stop, blanks_broken, blanks_more, blanks_more_within, blanks_fault_within}
 use Rattle.vala_lexer.proofs.blanks.blanks.Goals as goal

@@ -1,4 +1,4 @@
-use Rattle.std.proofs.Common.{◌≡◌, ◌+◌, ◌-◌, ◌≤◌, suc, length, drop}
+use Rattle.std.proofs.Common.{◌≡◌, ◌-◌, ◌≤◌, suc, length, drop}
 use Rattle.vala_lexer.specs.Blanks.{blanks, blanks_within}
 use Rattle.vala_lexer.proofs.blanks.blanks.Given as goal
 

@@ -1,4 +1,4 @@
-use Rattle.std.proofs.Common.{ap, sym, ◌∙◌, Some, arith}
+use Rattle.std.proofs.Common.{ap, sym, ◌∙◌, arith}
 use Rattle.vala_lexer.specs.Bytes.{in_64_bits}
 use Rattle.vala_lexer.proofs.ByteLemmas.{value_begins, value_next, value_ends, value_over, fits_64, over_64, is_small_number}
 use Rattle.vala_lexer.proofs.bytes.value_of.Goals as goal

@@ -1,4 +1,4 @@
-use Rattle.std.proofs.Common.{◌≡◌, sym, ap, ◌∙◌, Option, Some, Ok}
+use Rattle.std.proofs.Common.{sym, ap, ◌∙◌, Option, Ok}
 use Rattle.vala_lexer.specs.declared.token.Token.{Token}
 use Rattle.vala_lexer.specs.Tokens.{left, shown}
 use Rattle.vala_lexer.proofs.NextLemmas.{token_ends}

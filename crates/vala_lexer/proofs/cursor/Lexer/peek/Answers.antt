@@ -1,4 +1,4 @@
-use Rattle.std.proofs.Common.{◌≡◌, ◌≤◌, ◌<◌, ◌+◌, ◌^◌, ℕ, List, length, take, drop, ap, ap₂, sym, ◌∙◌, arith, Ok, Err, Some}
+use Rattle.std.proofs.Common.{◌≤◌, ◌<◌, ◌+◌, ◌^◌, ℕ, List, length, take, ap, ap₂, sym, ◌∙◌, arith, Ok, Err, Some}
 use Rattle.vg_base.specs.declared.event.Span.{Span}
 use Rattle.vala_lexer.specs.Blanks.{blanks}
 use Rattle.vala_lexer.specs.Cut.{cut}
