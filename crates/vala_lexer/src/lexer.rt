@@ -21,7 +21,7 @@ impl<'t> Lexer<'t> {
         Lexer { bytes, file, at: 0 }
     }
 
-    /// The next token, None at the end, or the rule that is broken before the token behind is known.
+    /// The next token, None at the end, or the rule that is broken there.
     pub fn peek(&self) -> Result<Option<Token<'t>>, Refusal>
         ensures { spec.shown result ≡ spec.next_of (spec.left self.now) }
     {

@@ -20,7 +20,7 @@ pub enum TokenKind {
     Identifier,
     /// A number, by its value and its type.
     Integer(u64, IntegerType),
-    /// A text. `text_bytes` gives the bytes that it denotes.
+    /// A text, written with its quotes.
     Text,
     /// A character, by its code.
     Character(u8),
