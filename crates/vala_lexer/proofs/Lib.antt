@@ -1,0 +1,7 @@
+mod ByteLemmas
+mod FitLemmas
+mod NextLemmas
+mod CoverLemmas
+mod LongestLemmas
+mod WrittenLemmas
+mod SpellingLemmas

@@ -1,0 +1,12 @@
+pub mod Spelling
+pub mod Pieces
+pub mod Bytes
+pub mod Words
+pub mod Signs
+pub mod Numbers
+pub mod Texts
+pub mod Blanks
+pub mod Cut
+pub mod Tokens
+pub mod Laws
+pub mod Written
