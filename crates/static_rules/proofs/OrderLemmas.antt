@@ -56,7 +56,7 @@ total (x ∷ u) (y ∷ v) e ne =
     p)
     (compared x y)
 
--- the rules by the numbers of their rows, with one of its own for the row 0, which the table has not; U1 stands in two rows
+-- the rules by the numbers of their rows, where the place 0 is filled, since the numbers begin with 1; U1 stands twice
 abbrev rules_by_row : List Rule
 rules_by_row = M1 ∷ M1 ∷ M2 ∷ L1 ∷ L2 ∷ L3 ∷ L4 ∷ M4 ∷ S1 ∷ S2 ∷ M5 ∷ U1 ∷ M3 ∷ N2 ∷ N5 ∷ N6 ∷ T5 ∷ T6 ∷ T7 ∷ N1 ∷ N3 ∷ N4 ∷ T1 ∷ T2 ∷ T3 ∷ T4 ∷ T8 ∷ T9 ∷ T10 ∷ T11 ∷ T12 ∷ T13 ∷ T14 ∷ U1 ∷ F1 ∷ F2 ∷ F3 ∷ F4 ∷ F5 ∷ X1 ∷ X2 ∷ X3 ∷ A1 ∷ A2 ∷ A3 ∷ A4 ∷ O1 ∷ O2 ∷ O3 ∷ O4 ∷ O5 ∷ O6 ∷ []
 

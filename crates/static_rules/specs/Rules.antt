@@ -10,7 +10,7 @@ pub record Row : Type 0 where
   pub name : List ℕ
   pub text : List ℕ
 
--- the table; row 33 is that of U1 in phase 4
+-- the table; U1 has a row of its own in phase 4, the one numbered 33
 abbrev pub row_of : Rule → Row
 row_of M1 = record { number = 1; phases = 1 ∷ []; name = codes "M1"; text = codes "file too large" }
 row_of M2 = record { number = 2; phases = 1 ∷ []; name = codes "M2"; text = codes "too many files" }
