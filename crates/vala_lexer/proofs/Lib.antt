@@ -5,3 +5,4 @@ mod CoverLemmas
 mod LongestLemmas
 mod WrittenLemmas
 mod SpellingLemmas
+pub mod DenotedLemmas

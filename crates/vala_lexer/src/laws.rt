@@ -1,6 +1,11 @@
 // What holds of the tokens of a text.
 
-ghost use Rattle.std.specs.Prelude.{◌≡◌, ◌≤◌, ◌⊎◌, ◌++◌, ℕ, [], length, drop, List, Option, Some, Ok};
+ghost use Rattle.std.specs.Prelude.{◌≡◌, ◌≢◌, ◌≤◌, ◌⊎◌, ◌++◌, ◌∷◌, ℕ, false, [], length, drop, List, Option, Some, Ok};
+ghost use Rattle.std.specs.Char.{encode_utf8};
+ghost use Rattle.vala_lexer.specs.Bytes.{starts_with_quotes};
+ghost use Rattle.vala_lexer.specs.Texts.{denoted, escape, text_value};
+ghost use Rattle.vala_lexer.specs.declared.texts.Escape.{Escape};
+ghost use Rattle.vala_lexer.specs.declared.texts.Literal.TheVariants as Literal;
 ghost use Rattle.vala_lexer.specs.Written.{IsToken};
 ghost use Rattle.vala_lexer.specs.declared.token.TokenKind.{TokenKind};
 ghost use Rattle.vala_lexer.specs.Spelling.{spelling};
@@ -29,4 +34,13 @@ pub fn each_token_is_longest()
 pub fn keywords_and_signs_are_spelled()
     ensures some { (kind : TokenKind) → (spelling kind ≡ []) ⊎ IsToken (spelling kind) kind }
     ensures only { (w : List ℕ) (kind : TokenKind) → IsToken w kind → (spelling kind ≡ []) ⊎ (w ≡ spelling kind) }
+{}
+
+/// What a text denotes: between `"` each escape its character in UTF-8 and each other byte itself, and between `"""` each byte itself.
+pub fn texts_denote()
+    ensures verbatim { (b : List ℕ) → text_value (34 ∷ 34 ∷ 34 ∷ b ++ 34 ∷ 34 ∷ 34 ∷ []) ≡ b }
+    ensures text { (b : List ℕ) → starts_with_quotes (34 ∷ b ++ 34 ∷ []) ≡ false → text_value (34 ∷ b ++ 34 ∷ []) ≡ denoted b }
+    ensures nothing { denoted [] ≡ [] }
+    ensures byte { (b : ℕ) (rest : List ℕ) → b ≢ 92 → denoted (b ∷ rest) ≡ b ∷ denoted rest }
+    ensures escape { (rest : List ℕ) (e : Escape) → escape Literal.Text rest ≡ Some e → denoted (92 ∷ rest) ≡ encode_utf8 e.code ++ denoted (drop e.len rest) }
 {}

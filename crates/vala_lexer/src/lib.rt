@@ -18,6 +18,7 @@ mod words;
 
 pub use cursor::Lexer;
 pub use laws::{
-    each_token_is_longest, keywords_and_signs_are_spelled, one_list_of_tokens, tokens_cover,
+    each_token_is_longest, keywords_and_signs_are_spelled, one_list_of_tokens, texts_denote,
+    tokens_cover,
 };
 pub use token::{IntegerType, Token, TokenKind};
