@@ -1,0 +1,3 @@
+pub mod State
+pub mod Owners
+pub mod Places
