@@ -1,5 +1,5 @@
 -- Places: what they hold, how they are made, and when an end comes before they are used.
-use Rattle.std.specs.Prelude.{ℕ, zero, suc, ◌+◌, ◌==◌, ◌&&◌, nat_lt, Bool, true, false, not, if◌then◌else◌, ℤ, pos, negsuc, List, [], ◌∷◌, ◌++◌, length, map, flat_map, Option, Some, None, slice_get}
+use Rattle.std.specs.Prelude.{ℕ, zero, suc, ◌+◌, ◌*◌, ◌==◌, ◌&&◌, nat_lt, Bool, true, false, not, if◌then◌else◌, ℤ, pos, negsuc, List, [], ◌∷◌, ◌++◌, length, map, flat_map, Option, Some, None, Result, Ok, Err, slice_get}
 use Rattle.std.specs.List.{list_any}
 use Rattle.vg_base.specs.declared.event.VEnd.{VEnd}
 use Rattle.vg_base.specs.declared.event.VEnd.TheVariants.{Trapped, Dead}
@@ -293,3 +293,76 @@ abbrev pub find_cell : State.State → Value → ℕ → Found
 find_cell s (Thing t) k = found (uses s (Thing t ∷ [])) (first_of (thing_at s t) k)
 find_cell s (Cells first) k = find_at s (first + k)
 find_cell s v k = found (uses s (v ∷ [])) Nowhere
+
+-- whether an index is outside a length
+abbrev pub is_inside : ℤ → ℕ → Bool
+is_inside (pos i) n = nat_lt i n
+is_inside (negsuc i) n = false
+
+abbrev pub nat_of : ℤ → ℕ
+nat_of (pos i) = i
+nat_of (negsuc i) = 0
+
+-- the cells that an element takes: all elements of an array have the same
+abbrev pub find_element_if : Bool → ℕ → Found
+find_element_if true n = There n
+find_element_if false n = Fails (Trapped trap.Index)
+
+abbrev pub find_element_in : Option ThingState → ℕ → ℤ → Found
+find_element_in None width i = Nowhere
+find_element_in (Some x) width i = element_of x.content
+  where
+    element_of : Content → Found
+    element_of (ArrayOf item count) = find_element_if (is_inside i count) (x.first + nat_of i * width)
+    element_of _ = Nowhere
+
+-- an element of an array whose elements have so many cells
+abbrev pub find_element : State.State → Value → ℕ → ℤ → Found
+find_element s (Thing t) width i = found (uses s (Thing t ∷ [])) (find_element_in (thing_at s t) width i)
+find_element s (Arguments first count) width i = find_element_if (is_inside i count) (first + nat_of i)
+find_element s v width i = found (uses s (v ∷ [])) Nowhere
+
+-- Scopes, outward from one: each scope on the way is used.
+
+abbrev pub outer_in : Option ThingState → ℕ
+outer_in None = 0
+outer_in (Some x) = outer_place x.content
+  where
+    outer_place : Content → ℕ
+    outer_place (ScopeOf variables has_outer has_this) = x.first + variables
+    outer_place _ = 0
+
+-- the place of a scope that holds its outer scope
+abbrev pub outer_place_of : State.State → Value → ℕ
+outer_place_of s (Thing t) = outer_in (thing_at s t)
+outer_place_of s v = 0
+
+-- the scope that is so many outward, or the end that a gone one on the way brings
+abbrev pub scope_from : State.State → Value → ℕ → Result Value VEnd
+scope_from s v zero = if is_gone s v then Err Dead else Ok v
+scope_from s v (suc n) = if is_gone s v then Err Dead else scope_from s (held s (outer_place_of s v)) n
+
+abbrev pub variable_in : State.State → Result Value VEnd → ℕ → Found
+variable_in s (Err e) k = Fails e
+variable_in s (Ok v) k = find_cell s v k
+
+abbrev pub find_variable : State.State → Value → ℕ → ℕ → Found
+find_variable s v outward k = variable_in s (scope_from s v outward) k
+
+-- where `this` stands in a scope: behind its variables and its outer scope
+abbrev pub this_in : Option ThingState → ℕ
+this_in None = 0
+this_in (Some x) = this_place x.content
+  where
+    this_place : Content → ℕ
+    this_place (ScopeOf variables true has_this) = variables + 1
+    this_place (ScopeOf variables false has_this) = variables
+    this_place _ = 0
+
+abbrev pub this_cell : State.State → Value → ℕ
+this_cell s (Thing t) = this_in (thing_at s t)
+this_cell s v = 0
+
+abbrev pub this_of : State.State → Result Value VEnd → Found
+this_of s (Err e) = Fails e
+this_of s (Ok v) = find_cell s v (this_cell s v)

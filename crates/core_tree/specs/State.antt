@@ -107,8 +107,14 @@ pub data Item : Type 0 where
   Evaluate : CoreExpr → Item
   -- evaluates a target: its parts, and then which place they lead to
   Locate : CoreExpr → Item
+  -- gives this
+  Push : Operand → Item
   -- reads the target that was given last, which stays
   ReadTarget : Item
+  -- reads the target that was given last, a place of this type, in its stead
+  ReadAway : VType → Item
+  -- the change of a value that goes into a place of this type, of what was given last
+  ChangeTop : Change → VType → Item
   -- does an operation whose parts are there; the operands are those around it
   Perform : Operation → List Operand → Item
   -- the same of a target
@@ -161,8 +167,8 @@ pub data Item : Type 0 where
   Catches : List CoreStmt → Item
   -- the last block of a `try`, which every way out does
   Finally : List CoreStmt → Item
-  -- the scope of a block is there: these captured parameters go into it
-  EnterScope : (scope : ℕ) → List CapturedParameter → Item
+  -- sets a place to zero or null, and gives up what it held
+  Clear : ℕ → VType → Item
   -- the end of a call: these places are given up, and the caller's frame goes on with the result
   EndCall : List ℕ → Frame → Item
   -- the same of a creation method, which gives up the object where it throws
@@ -171,10 +177,11 @@ pub data Item : Type 0 where
   BeginMaking : (class method : ℕ) → Item
   -- the arguments of `base` are there
   CallBase : (class method : ℕ) → Item
-  -- the values of `Object (..)` are there
-  MakeObject : ℕ → List ℕ → Item
-  -- the initialisers of a class and its bases, the construct properties, the `construct` blocks, the other properties
-  SetProperty : ℕ → Operand → Item
+  -- the values that `Object (..)` gives to these properties are there
+  MakeObject : (class : ℕ) → List ℕ → Item
+  -- sets a property of the object that is made
+  SetProperty : ℕ → Item
+  -- runs a `construct` block of the object that is made
   RunMethod : ℕ → Item
   -- the setter has run: the notification
   Notify : Value → ℕ → Item

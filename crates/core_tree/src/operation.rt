@@ -31,7 +31,7 @@ pub enum Operation {
     /// Receiver. The property with this number: its getter where it is read, its setter where it is a target.
     Property(u32),
     /// A place. Moves what it holds into an owned temporary, and leaves null, or zero in the numbers of a struct.
-    Take,
+    Take(VType),
     /// One or two integers of this type.
     Arithmetic(Arithmetic, IntKind),
     /// An integer. Its value modulo the width of this type.
@@ -62,14 +62,12 @@ pub enum Operation {
     List(Item),
     /// The values of all cells, or none for zeros. A fresh struct.
     NewStruct(u32),
-    /// Receiver. A delegate to this method; fresh, and it owns the receiver.
-    MethodValue(u32),
-    /// No parts. A delegate to this static method.
-    StaticValue(u32),
+    /// Receiver where there is one. A delegate to this method. It is fresh and owns the receiver, but for a handler.
+    MethodValue { callee: Callee, is_owning: bool },
     /// No parts. `m.callback`: a delegate that resumes this activation and owns nothing.
     Callback,
     /// A place and a value. Stores the value and gives up the old one. Gives the target's value where it is used.
-    Assign { is_used: bool },
+    Assign { kind: VType, is_used: bool },
     /// A place that is also read, and a value of this type. Computes, converts to the second type and stores.
     AssignNumber { operator: Arithmetic, at: IntKind, to: IntKind, is_used: bool },
     /// A place that is also read, and a text. Stores the fresh concatenation.
