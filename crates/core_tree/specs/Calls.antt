@@ -177,7 +177,7 @@ parameters_owned core s (p ∷ ps) (n ∷ ns) = parameters_owned core s ps ns ++
 pub record Opening : Type 0 where
   pub state : State.State
   pub owned : List ℕ
-  pub ended : Option VEnd
+  pub found : List Found
   pub cleared : List Item
 
 -- The frame for arguments that are arranged: then `this`, the result and the other locals are places one after another.
@@ -202,7 +202,7 @@ open_arranged core s locals this target activation a =
         };
       };
       owned = parameters_owned core opened locals.parameters a.locals;
-      ended = tested a.found;
+      found = a.found;
       cleared = a.cleared;
     }
 

@@ -5,3 +5,7 @@ pub mod Arithmetic
 pub mod Formats
 pub mod Texts
 pub mod Calls
+pub mod Changes
+pub mod Invoke
+pub mod Storing
+pub mod Objects

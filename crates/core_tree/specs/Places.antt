@@ -200,10 +200,20 @@ first_stage s x (TextOf bytes) = Last
 first_stage s x (ErrorOf domain code message) = Last
 first_stage s x _ = Places (owning_from s (range x.first x.count)) None
 
+abbrev pub has_target : ℕ → Value → Bool
+has_target t (Delegate code (Thing u)) = t == u
+has_target t v = false
+
+-- the handlers but for those that do not own their target, which is this thing
+abbrev pub without_target : State.State → ℕ → List State.Handler → List State.Handler
+without_target s t [] = []
+without_target s t (h ∷ hs) =
+    if not (is_owning_place s h.place) && has_target t (held s h.place) then without_target s t hs else h ∷ without_target s t hs
+
 abbrev pub begin_ending_of : State.State → ℕ → Option ThingState → State.State
 begin_ending_of s t None = s
 begin_ending_of s t (Some x) =
-    next (End t (first_stage s x x.content) ∷ []) (record s { things = with_status s.things t Ending })
+    next (End t (first_stage s x x.content) ∷ []) (record s { things = with_status s.things t Ending; handlers = without_target s t s.handlers })
 
 -- the thing is ending, before all other work
 abbrev pub begin_ending : State.State → ℕ → State.State

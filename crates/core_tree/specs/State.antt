@@ -218,6 +218,25 @@ pub record ThingState : Type 0 where
   pub first : ℕ
   pub count : ℕ
 
+-- A handler of a signal. The place holds the delegate, and owns its target where the handler does.
+pub record Handler : Type 0 where
+  pub id : ℕ
+  pub object : ℕ
+  pub signal : ℕ
+  pub detail : Option ℕ
+  pub is_after : Bool
+  pub takes_sender : Bool
+  pub takes_arguments : Bool
+  pub place : ℕ
+
+-- A source of the main loop. The place holds its function; a source that completes an activation has none.
+pub record Source : Type 0 where
+  pub id : ℕ
+  pub interval : Option ℕ
+  pub due : ℕ
+  pub place : ℕ
+  pub completes : Option ℕ
+
 -- A state.
 pub record State : Type 0 where
   -- every thing that was made; the one with the serial n is the n-th
@@ -228,6 +247,14 @@ pub record State : Type 0 where
   pub statics : List ℕ
   pub frame : Frame
   pub work : List Item
+  -- the handlers and sources that are there, by rising id, and the greatest id given of each
+  pub handlers : List Handler
+  pub last_handler : ℕ
+  pub sources : List Source
+  pub last_source : ℕ
+  -- the place that owns the loop that runs, and whether `quit` was called in it
+  pub running : Option ℕ
+  pub is_quitting : Bool
   pub clock : ℕ
   pub entries : List Entry
   pub input : List ℕ

@@ -14,5 +14,5 @@ pub use decl::{Access, CoreDecl, DeclKind, Modifiers};
 pub use lambda::{CapturedParameter, CoreParameter, Lambda, Locals, Mode, Scope, ScopeAt, Target, ThisAt, Via};
 pub use operation::Operation;
 pub use tree::{CoreExpr, CoreStmt};
-pub use types::{Accessor, ClassInfo, CoreMethod, CorePlace, CoreProperty, CoreSignal, CoreType, Given, Initial, Making, Slot, StructInfo};
+pub use types::{Accessor, ClassInfo, CoreMethod, CorePlace, CoreProperty, CoreSignal, CoreType, Given, Making, Slot, StructInfo};
 pub use values::{Arithmetic, Callee, Comparison, LoopCall, Part, TextCall};

@@ -35,19 +35,11 @@ pub struct Given {
     pub value: CoreExpr,
 }
 
-/// A slot of a class, and the method that the class has in it.
+/// A slot of a class, and what the class has in it: a method, or for an accessor a property, by its number.
 #[derive(Clone, Copy)]
 pub struct Slot {
     pub slot: u32,
-    pub method: u32,
-}
-
-/// What runs on a new object before the rest of its creation methods: a field's initialiser, or a property's default.
-#[derive(Drop)]
-pub struct Initial {
-    /// The cell that it fills, as a target, and the value. The frame has no locals and `this`.
-    pub target: CoreExpr,
-    pub value: CoreExpr,
+    pub member: u32,
 }
 
 /// A class.
@@ -61,8 +53,8 @@ pub struct ClassInfo {
     pub cells: Items<VType>,
     /// Where its own cells begin.
     pub own: u32,
-    /// Its own initialisers, in order of declaration.
-    pub initials: Items<Initial>,
+    /// Its own initialisers and the defaults of its properties, in order of declaration. Each stores into a cell of `this`.
+    pub initials: Items<CoreStmt>,
     /// Its own construct properties, in order of declaration.
     pub construct_properties: Items<u32>,
     /// The methods of its own `construct` blocks, in order of declaration.
@@ -87,16 +79,15 @@ pub enum CoreType {
     Other,
 }
 
-/// How a property is read or written.
+/// How a property itself is read or written.
 #[derive(Clone, Copy)]
 pub enum Accessor {
+    /// It is not, or it is abstract.
     Missing,
     /// The cell with this number is read or written.
     Automatic(u32),
     /// The method with this number is called.
     Written(u32),
-    /// The method in this slot of the receiver's class is called; an automatic one stands there as a method.
-    Virtual(u32),
 }
 
 /// A property, by its number in `Core::properties`.
@@ -105,8 +96,14 @@ pub struct CoreProperty {
     pub name: Items<u8>,
     pub kind: VType,
     pub getter: Accessor,
+    /// Where it is virtual: the slot of the property whose getter is taken, in the receiver's class.
+    pub get_slot: Option<u32>,
+    /// `owned get;`: an automatic getter gives a copy.
+    pub is_get_owned: bool,
     pub setter: Accessor,
-    /// Of a construct property: what is set when none is given.
+    pub set_slot: Option<u32>,
+    pub is_construct: bool,
+    /// Of a construct property: what is set when none is given, none or one.
     pub default: Items<CoreExpr>,
 }
 
