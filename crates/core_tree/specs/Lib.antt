@@ -9,3 +9,5 @@ pub mod Changes
 pub mod Invoke
 pub mod Storing
 pub mod Objects
+pub mod Operations
+pub mod Statements

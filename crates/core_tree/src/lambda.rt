@@ -70,8 +70,16 @@ pub enum Target {
 pub struct CapturedParameter {
     pub local: u32,
     pub variable: u32,
+    pub kind: VType,
     /// Move where the parameter owns, else the copy for its type.
     pub change: Change,
+}
+
+/// A local of a block, and its type.
+#[derive(Clone, Copy)]
+pub struct BlockLocal {
+    pub local: u32,
+    pub kind: VType,
 }
 
 /// The scope that a block with captured variables makes when it is entered.

@@ -1,9 +1,9 @@
 // Expressions and statements.
 
-use crate::lambda::{Lambda, Scope};
+use crate::lambda::{BlockLocal, Lambda, Scope};
 use crate::operation::Operation;
 use sqlite_items::{Boxed, Items};
-use vala_types::{IntKind, Item, VType};
+use vala_types::{Change, Item};
 use vg_base::Span;
 
 /// An expression. It gives a value, or an owned temporary, or nothing where its type is `void`.
@@ -39,7 +39,7 @@ pub enum CoreStmt {
     /// Puts the value of the initialiser into the place, which is a target, and gives up the other temporaries.
     Local(CoreExpr, CoreExpr, Span),
     /// Makes its scope, does the statements, gives up its locals (these) in reverse order, and its scope last.
-    Block { locals: Items<u32>, scope: Items<Scope>, body: Items<CoreStmt>, at: Span },
+    Block { locals: Items<BlockLocal>, scope: Items<Scope>, body: Items<CoreStmt>, at: Span },
     /// Evaluates, gives up the temporaries, and does one of the two.
     If(CoreExpr, Boxed<CoreStmt>, Boxed<CoreStmt>, Span),
     /// Does the body as long as the condition holds, which is tested before each turn.
@@ -50,7 +50,7 @@ pub enum CoreStmt {
     For(CoreExpr, Items<CoreStmt>, Boxed<CoreStmt>, Span),
     /// Evaluates the array once and reads its length once. Each turn reads an element and does the body, a block.
     /// The element goes into the target, by the change.
-    Foreach { array: CoreExpr, item: Item, variable: CoreExpr, change: vala_types::Change, body: Boxed<CoreStmt>, at: Span },
+    Foreach { array: CoreExpr, item: Item, variable: CoreExpr, change: Change, body: Boxed<CoreStmt>, at: Span },
     /// Evaluates, compares with the labels in order, gives up the temporaries, and does from the chosen section on.
     Switch(CoreExpr, Items<CoreStmt>, Span),
     /// A section of a `switch`: its labels, whether it has the label `default`, and its block.
