@@ -21,7 +21,7 @@ use Rattle.core_tree.specs.declared.types.Slot.{Slot}
 use Rattle.core_tree.specs.declared.values.Callee.{Callee}
 use Rattle.core_tree.specs.declared.values.Callee.TheVariants as callee
 use Rattle.core_tree.specs.State
-use Rattle.core_tree.specs.State.{Value, Null, Thing, Cells, Delegate, Code, Method, Body, Resume, Operand, Given, Item, Execute, EndCall, Content, ObjectOf}
+use Rattle.core_tree.specs.State.{Value, Null, Number, Thing, Cells, Delegate, Code, Method, Body, Resume, Operand, Given, Item, Push, Execute, EndCall, BackTo, Parked, Content, ObjectOf}
 use Rattle.core_tree.specs.Places.{Out, quiet, stop, stuck, next, held, unless, value_of, give_bool, Found, There, Fails, Nowhere, content_of, scope_from, this_of}
 use Rattle.core_tree.specs.Calls.{Opening, open_frame, tested, used, is_struct}
 
@@ -98,12 +98,35 @@ abbrev pub call_lambda : Core → State.State → Lambda → CoreStmt → Value 
 call_lambda core s l body target os (bound.Captures at) = begin_call s [] (body ∷ []) (open_frame core s l.locals Null target None os)
 call_lambda core s l body target os _ = begin_call s [] (body ∷ []) (open_frame core s l.locals target Null None os)
 
+-- Activations
+
+abbrev pub parked_of : ℕ → List Parked → Option Parked
+parked_of t ps = find (λ (p : Parked). p.activation == t) ps
+
+abbrev pub without_parked : ℕ → List Parked → List Parked
+without_parked t [] = []
+without_parked t (p ∷ ps) = if p.activation == t then ps else p ∷ without_parked t ps
+
+-- A parked activation goes on: its frame and the rest of its work, then this, and then the frame that is there now.
+abbrev pub go_on : State.State → Parked → List Item → State.State
+go_on s p behind =
+    next (p.work ++ BackTo s.frame ∷ behind) (record s { frame = p.frame; parked = without_parked p.activation s.parked })
+
+abbrev pub resume_by : State.State → Option Parked → Out
+resume_by s None = stop s (Trapped trap.Resume)
+resume_by s (Some p) = if p.by_yield then quiet (go_on s p (Push (Given (Number (pos 0))) ∷ [])) else stop s (Trapped trap.Resume)
+
+-- The call of `m.callback` resumes the activation and gives false. It is the trap `resume` where it is not parked by `yield;`.
+abbrev pub resume : State.State → Value → Out
+resume s (Thing t) = unless (tested (used s (Thing t) ∷ [])) s (resume_by s (parked_of t s.parked))
+resume s v = stuck s
+
 -- The call of a method value is a member call on its target; the call of a lambda is no use of its target.
 abbrev pub call_delegate : Core → State.State → Value → List Operand → Out
 call_delegate core s (Delegate (Method m) Null) os = call_method core s [] Null os m
 call_delegate core s (Delegate (Method m) target) os = call_method core s (used s target ∷ []) target os m
 call_delegate core s (Delegate (Body l body at) target) os = call_lambda core s l body target os l.target
-call_delegate core s (Delegate Resume target) os = stuck s
+call_delegate core s (Delegate Resume target) os = resume s target
 call_delegate core s v os = stop s (Trapped trap.Null)
 
 -- the first of the operands is the receiver

@@ -9,5 +9,10 @@ pub mod Changes
 pub mod Invoke
 pub mod Storing
 pub mod Objects
+pub mod Signals
+pub mod Async
+pub mod Loop
 pub mod Operations
 pub mod Statements
+pub mod Leaving
+pub mod Step

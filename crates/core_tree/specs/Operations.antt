@@ -35,9 +35,12 @@ use Rattle.core_tree.specs.Texts.{TextResult, Makes, Gives, Traps, Nothing, appl
 use Rattle.core_tree.specs.Places.{Out, quiet, stop, stuck, next, cells_of, is_owning, empty_place, empty_places, range, held, put, owning_from, add_places, with_thing, next_serial, made, uses, reads, is_null, cannot_be_owned, content_of, release, unless, value_of, give, give_value, give_number, give_bool, give_owned, give_made, Found, There, Fails, Nowhere, find_cell}
 use Rattle.core_tree.specs.Calls.{type_of_item, find, values_of, left_by, filled, emptied, is_struct, give_cells}
 use Rattle.core_tree.specs.Changes.{bytes_of, give_text, change, cells_in, empty_array}
-use Rattle.core_tree.specs.Invoke.{local_place, way_begins, find_this, with_found, class_in, class_of, member_in, call}
+use Rattle.core_tree.specs.Invoke.{local_place, way_begins, find_this, with_found, class_in, class_of, member_in, call, with_receiver}
 use Rattle.core_tree.specs.Storing.{same_reference, stands, read, get_property, read_target, store, take}
 use Rattle.core_tree.specs.Objects.{new_object}
+use Rattle.core_tree.specs.Signals.{emit, connect, disconnect, disconnect_id}
+use Rattle.core_tree.specs.Async.{begin, yield_call, end, callback}
+use Rattle.core_tree.specs.Loop.{loop_call}
 
 -- Operands by their number
 
@@ -202,20 +205,19 @@ append core s of target x = with_found s (find core s target) (λ n. unless (rea
 
 -- Delegates
 
--- a method value of a receiver: a member access, and a new owner where it owns
-abbrev pub method_value : State.State → Bool → Value → Option ℕ → Out
-method_value s is_owning v None = stuck s
-method_value s false v (Some m) = quiet (give_value s (Delegate (Method m) v))
-method_value s true v (Some m) = if cannot_be_owned s v then stop s Dead else quiet (give_owned s (Delegate (Method m) v))
+-- a method value of a receiver: a member access, and a new owner
+abbrev pub method_value : State.State → Value → Option ℕ → Out
+method_value s v None = stuck s
+method_value s v (Some m) = if cannot_be_owned s v then stop s Dead else quiet (give_owned s (Delegate (Method m) v))
 
-abbrev pub receiver_value : State.State → Bool → Operand → Option ℕ → Out
-receiver_value s is_owning o m = unless (uses s (value_of s o ∷ [])) s (method_value s is_owning (value_of s o) m)
+abbrev pub receiver_value : State.State → Operand → Option ℕ → Out
+receiver_value s o m = unless (uses s (value_of s o ∷ [])) s (method_value s (value_of s o) m)
 
-abbrev pub delegate_to : Core → State.State → Bool → Callee → List Operand → Out
-delegate_to core s is_owning (callee.Static m) os = method_value s is_owning Null (Some m)
-delegate_to core s is_owning (callee.Method m) os = on_one s os (λ o. receiver_value s is_owning o (Some m))
-delegate_to core s is_owning (callee.Virtual slot) os = on_one s os (λ o. receiver_value s is_owning o (member_in (class_of core s (value_of s o)) slot))
-delegate_to core s is_owning callee.Delegate os = stuck s
+abbrev pub delegate_to : Core → State.State → Callee → List Operand → Out
+delegate_to core s (callee.Static m) os = method_value s Null (Some m)
+delegate_to core s (callee.Method m) os = on_one s os (λ o. receiver_value s o (Some m))
+delegate_to core s (callee.Virtual slot) os = on_one s os (λ o. receiver_value s o (member_in (class_of core s (value_of s o)) slot))
+delegate_to core s callee.Delegate os = stuck s
 
 -- Assignment
 
@@ -311,7 +313,7 @@ perform core s (op.New class method) os = new_object core s class method os
 perform core s (op.NewArray of) os = on_one s os (λ o. with_number s (value_of s o) (λ z. new_array core s of z))
 perform core s (op.List of) os = list_array core s of os
 perform core s (op.NewStruct number) os = new_struct core s number os
-perform core s (op.MethodValue to is_owning) os = delegate_to core s is_owning to os
+perform core s (op.MethodValue to) os = delegate_to core s to os
 perform core s (op.Assign kind is_used) os = on_two s os (λ t o. assign s kind is_used t o)
 perform core s (op.AssignNumber o at to is_used) os = on_three s os (λ t a b. assign_number s o at to is_used t a b)
 perform core s (op.AssignText is_used) os = on_three s os (λ t a b. assign_text s is_used t a b)
@@ -323,7 +325,15 @@ perform core s (op.Cast n) os = on_one s os (λ o. cast core s o n)
 perform core s (op.NewError domain code format) os = unless (reads s (values s os)) s (new_error s domain code (formatted format (arguments_of s os)))
 perform core s (op.NewErrorText domain code) os = unless (reads s (values s os)) s (new_error s domain code (written_in (arguments_of s os)))
 perform core s (op.Part p) os = on_one s os (λ o. part_of s p (value_of s o))
-perform core s _ os = stuck s
+perform core s op.Callback os = callback s s.frame.activation
+perform core s (op.Emit signal) os = with_receiver s os (λ v rest. emit s signal v (values s rest))
+perform core s (op.Connect signal detail is_after takes_sender takes_arguments to) os = connect core s signal detail is_after takes_sender takes_arguments to os
+perform core s (op.Disconnect signal to) os = disconnect core s signal to os
+perform core s op.DisconnectId os = on_two s os (λ o id. with_number s (value_of s id) (λ z. disconnect_id s (value_of s o) z))
+perform core s (op.Begin method has_receiver has_callback) os = begin core s method has_receiver os
+perform core s (op.YieldCall method has_receiver) os = yield_call core s method has_receiver os
+perform core s (op.End method has_receiver) os = end core s method has_receiver os
+perform core s (op.Loop c) os = loop_call core s c os
 
 -- Where a target leads, when its parts are there.
 abbrev pub reach : State.State → Operation → List Operand → Out

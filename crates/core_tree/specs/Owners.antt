@@ -31,7 +31,7 @@ abbrev pub owned_by_ending : Content → Bool
 owned_by_ending (TextOf bytes) = true
 owned_by_ending (ArrayOf item n) = true
 owned_by_ending (ErrorOf domain code message) = true
-owned_by_ending (ActivationOf method) = true
+owned_by_ending (ActivationOf method slot waiter) = true
 owned_by_ending _ = false
 
 -- how many owners a thing has that is this
@@ -54,7 +54,7 @@ kind_of (TextOf bytes) = kind.Text
 kind_of (ArrayOf item n) = kind.Array
 kind_of (ScopeOf n has_outer has_this) = kind.Scope
 kind_of (ErrorOf domain code message) = kind.Error
-kind_of (ActivationOf method) = kind.Activation
+kind_of (ActivationOf method slot waiter) = kind.Activation
 
 abbrev pub is_gone_status : Status → Bool
 is_gone_status Gone = true

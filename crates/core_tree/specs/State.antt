@@ -101,6 +101,21 @@ pub data Stage : Type 0 where
   -- nothing is left
   Last : Stage
 
+-- which handlers of an emission are next
+pub data Phase : Type 0 where
+  -- those connected by `connect`, then the class handler, then those connected by `connect_after`
+  Before Class After : Phase
+
+-- An emission: the place that owns its instance, the signal, the detail, the arguments,
+-- the greatest id given when it began, and the handler that ran last.
+pub record Emission : Type 0 where
+  pub instance : ℕ
+  pub signal : ℕ
+  pub detail : Option (List ℕ)
+  pub arguments : List Value
+  pub limit : ℕ
+  pub last : ℕ
+
 -- What is left to do. The first item is done next.
 pub data Item : Type 0 where
   -- evaluates an expression
@@ -185,10 +200,36 @@ pub data Item : Type 0 where
   RunMethod : ℕ → Item
   -- the setter has run: the notification
   Notify : Value → ℕ → Item
+  -- the next handler of an emission
+  Emit : Emission → Phase → Item
+  -- the arguments of a handler are there: the delegate in this place is called; the operands around the emission
+  CallHandler : ℕ → List Operand → Item
+  -- the same of the class handler, which stands in this slot
+  CallClassHandler : Value → ℕ → List Operand → Item
+  -- a turn of the loop that runs, which this place owns
+  LoopTurn : ℕ → Item
+  -- a source's function has returned; the operands around the call of the loop
+  EndFunction : ℕ → List Operand → Item
+  -- the callback of a completed activation has returned
+  EndCompletion : (source activation : ℕ) → List Operand → Item
+  -- the loop has control again
+  EndDispatch : Item
+  -- the arguments stand in an activation: its body begins
+  BeginBody : ℕ → Item
+  -- the end of the body of an async method
+  EndBody : Item
+  -- the caller of an activation goes on
+  BackTo : Frame → Item
+  -- an activation waits for another
+  ParkFor : ℕ → Item
+  -- the result or the error of an activation is taken
+  Receive : ℕ → Item
   -- a thing is ending
   End : ℕ → Stage → Item
   -- the assertion's value is there
   Check : Item
+  -- the call of `main`
+  Start : Item
   -- the end of `main`
   EndMain : Item
 
@@ -208,8 +249,8 @@ pub data Content : Type 0 where
   ScopeOf : (variables : ℕ) → (has_outer has_this : Bool) → Content
   -- an error: domain, code and message
   ErrorOf : ℕ → ℤ → List ℕ → Content
-  -- a run of an async method
-  ActivationOf : ℕ → Content
+  -- a run of an async method: the method, the slot of active methods, and the activation that waits for it
+  ActivationOf : (method slot : ℕ) (waiter : Option ℕ) → Content
 
 -- a thing: what it is, and its places, from a first one on
 pub record ThingState : Type 0 where
@@ -223,7 +264,7 @@ pub record Handler : Type 0 where
   pub id : ℕ
   pub object : ℕ
   pub signal : ℕ
-  pub detail : Option ℕ
+  pub detail : Option (List ℕ)
   pub is_after : Bool
   pub takes_sender : Bool
   pub takes_arguments : Bool
@@ -237,6 +278,13 @@ pub record Source : Type 0 where
   pub place : ℕ
   pub completes : Option ℕ
 
+-- A parked activation: its frame and the rest of its work. One that is parked by `yield;` is resumed by its callback.
+pub record Parked : Type 0 where
+  pub activation : ℕ
+  pub by_yield : Bool
+  pub frame : Frame
+  pub work : List Item
+
 -- A state.
 pub record State : Type 0 where
   -- every thing that was made; the one with the serial n is the n-th
@@ -247,6 +295,7 @@ pub record State : Type 0 where
   pub statics : List ℕ
   pub frame : Frame
   pub work : List Item
+  pub parked : List Parked
   -- the handlers and sources that are there, by rising id, and the greatest id given of each
   pub handlers : List Handler
   pub last_handler : ℕ

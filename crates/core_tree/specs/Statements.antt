@@ -28,7 +28,8 @@ use Rattle.core_tree.specs.Places.{Out, quiet, stop, stuck, next, cells_of, is_o
 use Rattle.core_tree.specs.Calls.{type_of_item, is_struct}
 use Rattle.core_tree.specs.Changes.{bytes_of}
 use Rattle.core_tree.specs.Invoke.{local_place, way_begins, find_this, with_found}
-use Rattle.core_tree.specs.Storing.{store_at, stands}
+use Rattle.core_tree.specs.Storing.{store_at, stands, is_false}
+use Rattle.core_tree.specs.Async.{park}
 use Rattle.core_tree.specs.Objects.{with_no_temporaries}
 use Rattle.core_tree.specs.Operations.{text_equal, signed_number}
 
@@ -86,10 +87,6 @@ taking s (o ∷ os) go = go (record s { frame = record s.frame { operands = os }
 
 abbrev pub take_operand : State.State → (State.State → Operand → Out) → Out
 take_operand s go = taking s s.frame.operands go
-
-abbrev pub is_false : Value → Bool
-is_false (Number z) = is_zero z
-is_false v = true
 
 -- Blocks
 
@@ -184,7 +181,7 @@ execute core s whole (CoreStmt-F.Return (e ∷ es) at) = part_of_statement s (Ev
 execute core s whole (CoreStmt-F.Throw e at) = part_of_statement s (Evaluate e ∷ ThrowGiven ∷ []) []
 execute core s whole (CoreStmt-F.Try body catches last at) = quiet (next (Execute body ∷ Catches catches ∷ Finally last ∷ []) s)
 execute core s whole (CoreStmt-F.Catch domain variable body at) = stuck s
-execute core s whole (CoreStmt-F.Yield at) = stuck s
+execute core s whole (CoreStmt-F.Yield at) = park s
 execute core s whole (CoreStmt-F.Assert e at) = part_of_statement s (Evaluate e ∷ Check ∷ []) []
 execute core s whole (CoreStmt-F.AssertNotReached at) = stop s (Trapped trap.Assert)
 

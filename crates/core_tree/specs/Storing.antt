@@ -14,7 +14,7 @@ use Rattle.core_tree.specs.declared.types.Accessor.TheVariants as access
 use Rattle.core_tree.specs.declared.types.CoreProperty.{CoreProperty}
 use Rattle.core_tree.specs.State
 use Rattle.core_tree.specs.State.{Value, Null, Number, Literal, Thing, Message, Cells, Delegate, Place, Code, Method, Body, Resume, Operand, Given, Owned, OwnedCells, At, CellOf, ElementOf, PropertyOf, VariableOf, Item, Push, Store, ChangeTop, GiveUp, EndStatement, Notify, Content, TextOf, ErrorOf}
-use Rattle.core_tree.specs.Arithmetic.{int_equal, bytes_equal}
+use Rattle.core_tree.specs.Arithmetic.{int_equal, bytes_equal, is_zero}
 use Rattle.core_tree.specs.Places.{Out, quiet, stop, stuck, next, cells_of, is_owning, zero_of, add_places, give_owned, range, held, put, owning_from, is_owning_place, release, uses, reads, unless, value_of, give, Found, There, Fails, Nowhere, content_of}
 use Rattle.core_tree.specs.Calls.{find, tested, used, is_struct, give_cells}
 use Rattle.core_tree.specs.Changes.{bytes_of}
@@ -184,3 +184,8 @@ take_at core s kind n = if is_struct kind.shape then take_struct s (cells_of cor
 
 abbrev pub take : Core → State.State → VType → Operand → Out
 take core s kind target = with_found s (find core s target) (λ n. quiet (take_at core s kind n))
+
+-- a `bool` that is false
+abbrev pub is_false : Value → Bool
+is_false (Number z) = is_zero z
+is_false v = true

@@ -62,8 +62,8 @@ pub enum Operation {
     List(Item),
     /// The values of all cells, or none for zeros. A fresh struct.
     NewStruct(u32),
-    /// Receiver where there is one. A delegate to this method. It is fresh and owns the receiver, but for a handler.
-    MethodValue { callee: Callee, is_owning: bool },
+    /// Receiver where there is one. A delegate to this method. It is fresh and owns the receiver.
+    MethodValue(Callee),
     /// No parts. `m.callback`: a delegate that resumes this activation and owns nothing.
     Callback,
     /// A place and a value. Stores the value and gives up the old one. Gives the target's value where it is used.
@@ -78,10 +78,11 @@ pub enum Operation {
     Append(Item),
     /// Receiver and arguments. Emits the signal with this number.
     Emit(u32),
-    /// Receiver and handler. Connects the handler and gives its id.
-    Connect { signal: u32, detail: Option<u32>, is_after: bool, takes_sender: bool, takes_arguments: bool },
-    /// Receiver and method value. Removes all handlers of that object, signal, method and target.
-    Disconnect(u32),
+    /// Receiver, and the handler: a lambda, or the receiver of the method that is called, where it has one.
+    /// Connects the handler, for a detail or none, and gives its id.
+    Connect { signal: u32, detail: Option<Items<u8>>, is_after: bool, takes_sender: bool, takes_arguments: bool, handler: Callee },
+    /// Receiver, and the receiver of the method where it has one. Removes all handlers of that object, signal and method.
+    Disconnect { signal: u32, handler: Callee },
     /// Object and id. Removes that handler of the object.
     DisconnectId,
     /// Receiver, arguments, callback. Begins the async method with this number.
