@@ -3,6 +3,8 @@ use Rattle.std.specs.Prelude.{◌≡◌, ℕ, zero, suc, Bool, true, false, List
 use Rattle.vg_base.specs.declared.event.Span.{Span}
 use Rattle.vg_base.specs.World.{World}
 use Rattle.vg_base.specs.declared.event.Event.{Event}
+use Rattle.vg_base.specs.declared.event.Event.TheVariants.{Print}
+use Rattle.vg_base.specs.declared.event.Stream.TheVariants.{Out}
 use Rattle.vg_base.specs.declared.event.LiveRow.{LiveRow}
 use Rattle.vg_base.specs.declared.event.VEnd.{VEnd}
 use Rattle.core_tree.specs.Step.{VRun}
@@ -144,6 +146,16 @@ abbrev pub program : List CoreType → List CoreMethod → List CorePlace → Co
 program types methods statics =
     record { decls = []; types = types; methods = methods; properties = []; signals = []; statics = statics; start = 0; tokens = 0 }
 
+abbrev pub with_properties : Core → List CoreProperty → Core
+with_properties core ps = record core { properties = ps }
+
+abbrev pub with_signals : Core → List CoreSignal → Core
+with_signals core ss = record core { signals = ss }
+
+-- the signal `notify` of `Object`, which has the number 0
+abbrev pub notify : CoreSignal
+notify = record { parameters = unowned shape.ParamSpec ∷ []; class_handler = None }
+
 abbrev pub quiet_world : World
 quiet_world = record { name = codes "a"; input = []; entries = [] }
 
@@ -162,3 +174,21 @@ pub record Row (core : Core) (w : World) (n : ℕ) (trace : List Event) (ended :
   pub says : (VRun core w).trace n ≡ trace
   pub ends : (VRun core w).ended n ≡ Some ended
   pub lives : (VRun core w).live n ≡ live
+
+-- a line of output
+abbrev pub line : List ℕ → Event
+line bytes = Print Out (bytes ++ 10 ∷ [])
+
+abbrev pub text_param : CoreParameter
+text_param = by_value (unowned shape.Text)
+
+-- a value that goes into a place as it is
+abbrev pub keep : VType → CoreExpr → CoreExpr
+keep kind x = changed change.Keep kind x
+
+abbrev pub moved : VType → CoreExpr → CoreExpr
+moved kind x = changed change.Move kind x
+
+-- a text literal in an owning place
+abbrev pub copied : CoreExpr → CoreExpr
+copied x = changed change.CopyText text x

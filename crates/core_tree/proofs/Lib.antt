@@ -1,2 +1,5 @@
 pub mod Build
 pub mod Destructor
+pub mod Owning
+pub mod Lambdas
+pub mod Errors
