@@ -3,3 +3,5 @@ pub mod Destructor
 pub mod Owning
 pub mod Lambdas
 pub mod Errors
+pub mod Emissions
+pub mod Makings
