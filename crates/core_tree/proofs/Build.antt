@@ -7,6 +7,8 @@ use Rattle.vg_base.specs.declared.event.Event.TheVariants.{Print}
 use Rattle.vg_base.specs.declared.event.Stream.TheVariants.{Out}
 use Rattle.vg_base.specs.declared.event.LiveRow.{LiveRow}
 use Rattle.vg_base.specs.declared.event.VEnd.{VEnd}
+use Rattle.vg_base.specs.Headline.{printed}
+use Rattle.vg_base.specs.declared.event.Entry.{Entry}
 use Rattle.core_tree.specs.Step.{VRun}
 use Rattle.vala_types.specs.declared.types.IntKind.TheVariants as kind
 use Rattle.vala_types.specs.declared.types.Shape.{Shape}
@@ -192,3 +194,13 @@ moved kind x = changed change.Move kind x
 -- a text literal in an owning place
 abbrev pub copied : CoreExpr → CoreExpr
 copied x = changed change.CopyText text x
+
+-- the same of what is printed to the output alone
+pub record Printed (core : Core) (w : World) (n : ℕ) (bytes : List ℕ) (ended : VEnd) (live : List LiveRow) : Type 0 where
+  pub says : printed Out ((VRun core w).trace n) ≡ bytes
+  pub ends : (VRun core w).ended n ≡ Some ended
+  pub lives : (VRun core w).live n ≡ live
+
+-- a world with these lines in its script
+abbrev pub scripted : List Entry → World
+scripted entries = record { name = codes "a"; input = []; entries = entries }

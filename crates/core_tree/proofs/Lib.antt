@@ -5,3 +5,4 @@ pub mod Lambdas
 pub mod Errors
 pub mod Emissions
 pub mod Makings
+pub mod Loops
