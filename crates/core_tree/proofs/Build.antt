@@ -22,6 +22,7 @@ use Rattle.core_tree.specs.declared.lambda.CoreParameter.{CoreParameter}
 use Rattle.core_tree.specs.declared.lambda.Locals.{Locals}
 use Rattle.core_tree.specs.declared.lambda.Mode.TheVariants as mode
 use Rattle.core_tree.specs.declared.lambda.Scope.{Scope}
+use Rattle.core_tree.specs.declared.lambda.Target.{Target}
 use Rattle.core_tree.specs.declared.lambda.ThisAt.TheVariants as from
 use Rattle.core_tree.specs.declared.operation.Operation.{Operation}
 use Rattle.core_tree.specs.declared.operation.Operation.TheVariants as op
@@ -204,3 +205,38 @@ pub record Printed (core : Core) (w : World) (n : ℕ) (bytes : List ℕ) (ended
 -- a world with these lines in its script
 abbrev pub scripted : List Entry → World
 scripted entries = record { name = codes "a"; input = []; entries = entries }
+
+-- class T : Object { public string n; public T (string n) { this.n = n; } ~T () { print ("~%s\n", this.n); } }
+-- It is the class 1; its creation method is the method 1, and its destructor the method 2.
+abbrev pub told : VType
+told = object 1
+
+abbrev pub told_name : CoreExpr → CoreExpr
+told_name o = field o 0 text
+
+abbrev pub told_type : CoreType
+told_type = class 1 (text ∷ []) [] (Some 2)
+
+abbrev pub told_methods : List CoreMethod
+told_methods =
+    creation (frame (text_param ∷ []) [] void) (making.Object []) (block [] (assign text (told_name this) (copied (local 0 (unowned shape.Text))) ∷ []))
+    ∷ method (frame [] [] void) (block [] (say (codes "~%s") (told_name this ∷ []) ∷ []))
+    ∷ []
+
+abbrev pub by_text : List ℕ → CoreExpr
+by_text bytes = keep (unowned shape.Text) (literal bytes)
+
+abbrev pub new_told : List ℕ → CoreExpr
+new_told bytes = moved told (new 1 1 (by_text bytes ∷ []))
+
+-- a delegate type, and a lambda at a place of the text that has no parameters and no result
+abbrev pub act : VType
+act = owned (shape.Delegate 9)
+
+abbrev pub lambda_at : ℕ → Target → List CoreStmt → CoreExpr
+lambda_at n target body =
+    e.Lambda (record { locals = frame [] [] void; target = target; is_owning = true }) (block [] body) (record { file = 0; start = n; «end» = n })
+
+-- an error of the domain 8
+abbrev pub error_type : VType
+error_type = owned (shape.Error (Some 8))

@@ -6,3 +6,4 @@ pub mod Errors
 pub mod Emissions
 pub mod Makings
 pub mod Loops
+pub mod Ways
