@@ -7,3 +7,4 @@ pub mod Emissions
 pub mod Makings
 pub mod Loops
 pub mod Ways
+pub mod Scopes
