@@ -8,3 +8,5 @@ pub mod Makings
 pub mod Loops
 pub mod Ways
 pub mod Scopes
+pub mod Objects
+pub mod Activations
