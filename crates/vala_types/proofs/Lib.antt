@@ -1,0 +1,4 @@
+pub mod TiesLemmas
+pub mod FitsLemmas
+pub mod FitsLaws
+pub mod ChangesLaws
