@@ -1,5 +1,5 @@
 -- Words for cores that are written out by hand.
-use Rattle.std.specs.Prelude.{◌≡◌, ℕ, zero, suc, Bool, true, false, List, [], ◌∷◌, ◌++◌, Option, Some, None, codes, ℤ, pos}
+use Rattle.std.specs.Prelude.{◌≡◌, ℕ, true, false, List, [], ◌∷◌, ◌++◌, Option, Some, None, codes}
 use Rattle.vg_base.specs.declared.event.Span.{Span}
 use Rattle.vg_base.specs.World.{World}
 use Rattle.vg_base.specs.declared.event.Event.{Event}
@@ -21,7 +21,6 @@ use Rattle.core_tree.specs.declared.lambda.BlockLocal.{BlockLocal}
 use Rattle.core_tree.specs.declared.lambda.CoreParameter.{CoreParameter}
 use Rattle.core_tree.specs.declared.lambda.Locals.{Locals}
 use Rattle.core_tree.specs.declared.lambda.Mode.TheVariants as mode
-use Rattle.core_tree.specs.declared.lambda.Scope.{Scope}
 use Rattle.core_tree.specs.declared.lambda.Target.{Target}
 use Rattle.core_tree.specs.declared.lambda.ThisAt.TheVariants as from
 use Rattle.core_tree.specs.declared.operation.Operation.{Operation}
@@ -30,7 +29,6 @@ use Rattle.core_tree.specs.declared.tree.CoreExpr.{CoreExpr}
 use Rattle.core_tree.specs.declared.tree.CoreExpr.TheVariants as e
 use Rattle.core_tree.specs.declared.tree.CoreStmt.{CoreStmt}
 use Rattle.core_tree.specs.declared.tree.CoreStmt.TheVariants as st
-use Rattle.core_tree.specs.declared.types.ClassInfo.{ClassInfo}
 use Rattle.core_tree.specs.declared.types.CoreMethod.{CoreMethod}
 use Rattle.core_tree.specs.declared.types.CorePlace.{CorePlace}
 use Rattle.core_tree.specs.declared.types.CoreProperty.{CoreProperty}

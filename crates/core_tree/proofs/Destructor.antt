@@ -1,13 +1,11 @@
 -- A destructor runs where the last of two owners goes, in front of what comes behind.
-use Rattle.std.specs.Prelude.{◌≡◌, refl, ℕ, List, [], ◌∷◌, Option, Some, None, codes, ℤ, pos}
-use Rattle.vg_base.specs.declared.event.Event.{Event}
+use Rattle.std.specs.Prelude.{refl, [], ◌∷◌, Some, codes, pos}
 use Rattle.vg_base.specs.declared.event.Event.TheVariants.{Print, Made, Gone}
 use Rattle.vg_base.specs.declared.event.Stream.TheVariants.{Out}
 use Rattle.vg_base.specs.declared.event.ThingKind.TheVariants.{Object}
 use Rattle.vg_base.specs.declared.event.VEnd.TheVariants.{Ended}
 use Rattle.vala_types.specs.declared.owners.Change.TheVariants.{Move, AddOwner, Keep}
 use Rattle.core_tree.specs.declared.core.Core.{Core}
-use Rattle.core_tree.specs.Step.{VRun}
 use Rattle.core_tree.proofs.Build
 
 -- class Foo : Object { ~Foo () { print ("gone\n"); } }
@@ -15,18 +13,18 @@ use Rattle.core_tree.proofs.Build
 abbrev pub core : Core
 core =
     Build.program (Build.object_class ∷ Build.class 1 [] [] (Some 2) ∷ []) (
-      Build.method (Build.frame [] (foo ∷ foo ∷ []) Build.void) (Build.block (Build.of 0 foo ∷ Build.of 1 foo ∷ []) (
-        Build.set (Build.local 0 foo) (Build.changed Move foo (Build.new 1 1 []))
-        ∷ Build.set (Build.local 1 foo) (Build.changed AddOwner foo (Build.local 0 foo))
-        ∷ Build.assign foo (Build.local 0 foo) (Build.changed Keep foo Build.null)
-        ∷ Build.say (codes "one") []
-        ∷ Build.assign foo (Build.local 1 foo) (Build.changed Keep foo Build.null)
-        ∷ Build.say (codes "two") []
-        ∷ []
-      ))
-      ∷ Build.plain_creation
-      ∷ Build.method (Build.frame [] [] Build.void) (Build.block [] (Build.say (codes "gone") [] ∷ []))
-      ∷ []
+    Build.method (Build.frame [] (foo ∷ foo ∷ []) Build.void) (Build.block (Build.of 0 foo ∷ Build.of 1 foo ∷ []) (
+    Build.set (Build.local 0 foo) (Build.changed Move foo (Build.new 1 1 []))
+    ∷ Build.set (Build.local 1 foo) (Build.changed AddOwner foo (Build.local 0 foo))
+    ∷ Build.assign foo (Build.local 0 foo) (Build.changed Keep foo Build.null)
+    ∷ Build.say (codes "one") []
+    ∷ Build.assign foo (Build.local 1 foo) (Build.changed Keep foo Build.null)
+    ∷ Build.say (codes "two") []
+    ∷ []
+    ))
+    ∷ Build.plain_creation
+    ∷ Build.method (Build.frame [] [] Build.void) (Build.block [] (Build.say (codes "gone") [] ∷ []))
+    ∷ []
     ) []
   where
     foo : Rattle.vala_types.specs.declared.types.VType.VType

@@ -1,40 +1,18 @@
 -- Emissions, handlers that change the handlers, and notifications.
-use Rattle.std.specs.Prelude.{◌≡◌, refl, ℕ, zero, suc, true, false, List, [], ◌∷◌, ◌++◌, Option, Some, None, codes, ℤ, pos}
-use Rattle.vg_base.specs.declared.event.Entry.TheVariants.{Pick, Wait}
-use Rattle.vg_base.specs.declared.event.Event.TheVariants.{Print, Made, Gone, Dispatch}
-use Rattle.vg_base.specs.declared.event.LiveRow.{LiveRow}
-use Rattle.vg_base.specs.declared.event.Stream.TheVariants.{Out}
-use Rattle.vg_base.specs.declared.event.ThingKind.TheVariants.{Object, Text, Array, Scope, Error, Activation}
-use Rattle.vg_base.specs.declared.event.TrapKind.TheVariants as trap
-use Rattle.vg_base.specs.declared.event.VEnd.TheVariants.{Ended, Dead, Trapped, Waiting}
-use Rattle.vg_base.specs.World.{World}
-use Rattle.vala_types.specs.declared.types.IntKind.TheVariants as kind
-use Rattle.vala_types.specs.declared.types.Item.{Item}
-use Rattle.vala_types.specs.declared.types.ItemShape.TheVariants as item
-use Rattle.vala_types.specs.declared.types.Shape.TheVariants as shape
+use Rattle.std.specs.Prelude.{refl, ℕ, true, false, List, [], ◌∷◌, Some, None, codes, pos}
+use Rattle.vg_base.specs.declared.event.Event.TheVariants.{Made, Gone}
+use Rattle.vg_base.specs.declared.event.ThingKind.TheVariants.{Object}
+use Rattle.vg_base.specs.declared.event.VEnd.TheVariants.{Ended}
 use Rattle.vala_types.specs.declared.types.VType.{VType}
-use Rattle.vala_types.specs.declared.owners.Change.TheVariants as change
 use Rattle.core_tree.specs.declared.core.Core.{Core}
-use Rattle.core_tree.specs.declared.lambda.Lambda.{Lambda}
-use Rattle.core_tree.specs.declared.lambda.Scope.{Scope as BlockScope}
-use Rattle.core_tree.specs.declared.lambda.ScopeAt.{ScopeAt}
 use Rattle.core_tree.specs.declared.lambda.Target.TheVariants as bound
-use Rattle.core_tree.specs.declared.lambda.ThisAt.TheVariants as from
-use Rattle.core_tree.specs.declared.lambda.Via.TheVariants as via
 use Rattle.core_tree.specs.declared.operation.Operation.TheVariants as op
 use Rattle.core_tree.specs.declared.tree.CoreExpr.{CoreExpr}
 use Rattle.core_tree.specs.declared.tree.CoreExpr.TheVariants as e
 use Rattle.core_tree.specs.declared.tree.CoreStmt.{CoreStmt}
-use Rattle.core_tree.specs.declared.tree.CoreStmt.TheVariants as st
 use Rattle.core_tree.specs.declared.types.Accessor.TheVariants as access
-use Rattle.core_tree.specs.declared.types.Making.TheVariants as making
-use Rattle.core_tree.specs.declared.values.Arithmetic.TheVariants as arithmetic
 use Rattle.core_tree.specs.declared.values.Callee.TheVariants as callee
-use Rattle.core_tree.specs.declared.values.Comparison.TheVariants as compare
-use Rattle.core_tree.specs.declared.values.LoopCall.TheVariants as loop
-use Rattle.core_tree.specs.declared.values.Part.TheVariants as part
-use Rattle.core_tree.specs.declared.values.TextCall.TheVariants as call_of
-use Rattle.core_tree.proofs.Build.{Row, here, owned, unowned, void, int, text, object, apply, number, literal, null, local, static, this, field, changed, place, assign, set, run, say, of, block, frame, by_value, method, creation, plain_creation, object_class, class, static_field, program, with_properties, with_signals, notify, quiet_world, new, call, call_on, line, text_param, keep, moved, copied}
+use Rattle.core_tree.proofs.Build.{Row, here, void, int, object, apply, number, local, static, this, field, assign, set, run, say, of, block, frame, by_value, method, plain_creation, object_class, class, static_field, program, with_properties, with_signals, notify, quiet_world, new, line, keep, moved}
 
 -- class S : Object { public signal void hit (int x); }
 -- S? s;
@@ -60,18 +38,18 @@ emit x = run (apply (op.Emit 1) (s ∷ keep int (number x) ∷ []))
 abbrev disconnected : Core
 disconnected =
     with_signals (
-      program (object_class ∷ class 1 [] [] None ∷ []) (
-        method (frame [] [] void) (block [] (
-          assign sender s (moved sender (new 1 1 [])) ∷ connect 2 ∷ connect 3 ∷ emit 1 ∷ emit 2 ∷ []
-        ))
-        ∷ plain_creation
-        ∷ method (frame (by_value int ∷ []) [] void) (prints (codes "one %d") (
-          run (apply (op.Disconnect 1 (callee.Static 3)) (s ∷ [])) ∷ connect 4 ∷ []
-        ))
-        ∷ method (frame (by_value int ∷ []) [] void) (prints (codes "two %d") [])
-        ∷ method (frame (by_value int ∷ []) [] void) (prints (codes "three %d") [])
-        ∷ []
-      ) (static_field sender ∷ [])
+    program (object_class ∷ class 1 [] [] None ∷ []) (
+    method (frame [] [] void) (block [] (
+    assign sender s (moved sender (new 1 1 [])) ∷ connect 2 ∷ connect 3 ∷ emit 1 ∷ emit 2 ∷ []
+    ))
+    ∷ plain_creation
+    ∷ method (frame (by_value int ∷ []) [] void) (prints (codes "one %d") (
+    run (apply (op.Disconnect 1 (callee.Static 3)) (s ∷ [])) ∷ connect 4 ∷ []
+    ))
+    ∷ method (frame (by_value int ∷ []) [] void) (prints (codes "two %d") [])
+    ∷ method (frame (by_value int ∷ []) [] void) (prints (codes "three %d") [])
+    ∷ []
+    ) (static_field sender ∷ [])
     ) (notify ∷ record { parameters = int ∷ []; class_handler = None } ∷ [])
 
 pub disconnected_row : Row disconnected quiet_world 300 (Made Object ∷ line (codes "one 1") ∷ line (codes "one 2") ∷ line (codes "three 2") ∷ []) (Ended (pos 0)) (record { kind = Object; serial = 1; owners = 1 } ∷ [])
@@ -92,21 +70,28 @@ said_n = e.Lambda (record { locals = frame [] [] void; target = bound.Nothing; i
 abbrev notified : Core
 notified =
     with_signals (with_properties (
-      program (object_class ∷ class 1 (int ∷ []) (set (field this 0 int) (keep int (number 3)) ∷ []) None ∷ []) (
-        method (frame [] (sender ∷ []) void) (block (of 0 sender ∷ []) (
-          set p (moved sender (new 1 1 []))
-          ∷ run (apply (op.Connect 0 (Some (codes "n")) false false false callee.Delegate) (p ∷ said_n ∷ []))
-          ∷ assign int p_n (keep int (number 3))
-          ∷ assign int p_n (keep int (number 4))
-          ∷ say (codes "%d") (p_n ∷ [])
-          ∷ []
-        ))
-        ∷ plain_creation
-        ∷ []
-      ) []
+    program (object_class ∷ class 1 (int ∷ []) (set (field this 0 int) (keep int (number 3)) ∷ []) None ∷ []) (
+    method (frame [] (sender ∷ []) void) (block (of 0 sender ∷ []) (
+    set p (moved sender (new 1 1 []))
+    ∷ run (apply (op.Connect 0 (Some (codes "n")) false false false callee.Delegate) (p ∷ said_n ∷ []))
+    ∷ assign int p_n (keep int (number 3))
+    ∷ assign int p_n (keep int (number 4))
+    ∷ say (codes "%d") (p_n ∷ [])
+    ∷ []
+    ))
+    ∷ plain_creation
+    ∷ []
+    ) []
     ) (record {
-      name = codes "n"; kind = int; getter = access.Automatic 0; is_get_owned = false; get_slot = None;
-      setter = access.Automatic 0; set_slot = None; is_construct = false; default = [];
+      name = codes "n";
+      kind = int;
+      getter = access.Automatic 0;
+      is_get_owned = false;
+      get_slot = None;
+      setter = access.Automatic 0;
+      set_slot = None;
+      is_construct = false;
+      default = [];
     } ∷ [])) (notify ∷ [])
 
 pub notified_row : Row notified quiet_world 300 (Made Object ∷ line (codes "n") ∷ line (codes "4") ∷ Gone 1 ∷ []) (Ended (pos 0)) ([])

@@ -1,40 +1,19 @@
 -- An error that is carried through frames gives up what it leaves.
-use Rattle.std.specs.Prelude.{◌≡◌, refl, ℕ, zero, suc, true, false, List, [], ◌∷◌, ◌++◌, Option, Some, None, codes, ℤ, pos}
-use Rattle.vg_base.specs.declared.event.Entry.TheVariants.{Pick, Wait}
-use Rattle.vg_base.specs.declared.event.Event.TheVariants.{Print, Made, Gone, Dispatch}
-use Rattle.vg_base.specs.declared.event.LiveRow.{LiveRow}
-use Rattle.vg_base.specs.declared.event.Stream.TheVariants.{Out}
-use Rattle.vg_base.specs.declared.event.ThingKind.TheVariants.{Object, Text, Array, Scope, Error, Activation}
-use Rattle.vg_base.specs.declared.event.TrapKind.TheVariants as trap
-use Rattle.vg_base.specs.declared.event.VEnd.TheVariants.{Ended, Dead, Trapped, Waiting}
-use Rattle.vg_base.specs.World.{World}
-use Rattle.vala_types.specs.declared.types.IntKind.TheVariants as kind
-use Rattle.vala_types.specs.declared.types.Item.{Item}
-use Rattle.vala_types.specs.declared.types.ItemShape.TheVariants as item
+use Rattle.std.specs.Prelude.{refl, ℕ, List, [], ◌∷◌, Some, codes, pos}
+use Rattle.vg_base.specs.declared.event.Event.TheVariants.{Made, Gone}
+use Rattle.vg_base.specs.declared.event.ThingKind.TheVariants.{Object, Text, Error}
+use Rattle.vg_base.specs.declared.event.VEnd.TheVariants.{Ended}
 use Rattle.vala_types.specs.declared.types.Shape.TheVariants as shape
 use Rattle.vala_types.specs.declared.types.VType.{VType}
-use Rattle.vala_types.specs.declared.owners.Change.TheVariants as change
 use Rattle.core_tree.specs.declared.core.Core.{Core}
-use Rattle.core_tree.specs.declared.lambda.Lambda.{Lambda}
-use Rattle.core_tree.specs.declared.lambda.Scope.{Scope as BlockScope}
-use Rattle.core_tree.specs.declared.lambda.ScopeAt.{ScopeAt}
-use Rattle.core_tree.specs.declared.lambda.Target.TheVariants as bound
-use Rattle.core_tree.specs.declared.lambda.ThisAt.TheVariants as from
-use Rattle.core_tree.specs.declared.lambda.Via.TheVariants as via
 use Rattle.core_tree.specs.declared.operation.Operation.TheVariants as op
 use Rattle.core_tree.specs.declared.tree.CoreExpr.{CoreExpr}
-use Rattle.core_tree.specs.declared.tree.CoreExpr.TheVariants as e
 use Rattle.core_tree.specs.declared.tree.CoreStmt.{CoreStmt}
 use Rattle.core_tree.specs.declared.tree.CoreStmt.TheVariants as st
-use Rattle.core_tree.specs.declared.types.Accessor.TheVariants as access
 use Rattle.core_tree.specs.declared.types.Making.TheVariants as making
-use Rattle.core_tree.specs.declared.values.Arithmetic.TheVariants as arithmetic
-use Rattle.core_tree.specs.declared.values.Callee.TheVariants as callee
 use Rattle.core_tree.specs.declared.values.Comparison.TheVariants as compare
-use Rattle.core_tree.specs.declared.values.LoopCall.TheVariants as loop
 use Rattle.core_tree.specs.declared.values.Part.TheVariants as part
-use Rattle.core_tree.specs.declared.values.TextCall.TheVariants as call_of
-use Rattle.core_tree.proofs.Build.{Row, here, owned, unowned, void, int, text, object, apply, number, literal, null, local, static, this, field, changed, place, assign, set, run, say, of, block, frame, by_value, method, creation, plain_creation, object_class, class, static_field, program, with_properties, with_signals, notify, quiet_world, new, call, call_on, line, text_param, keep, moved, copied}
+use Rattle.core_tree.proofs.Build.{Row, here, owned, unowned, void, text, object, apply, literal, local, this, field, assign, run, say, of, block, frame, by_value, method, creation, object_class, class, program, quiet_world, new, call, line, text_param, keep, moved, copied}
 
 -- errordomain E { BAD }
 -- class T : Object { public string n; public T (string n) { this.n = n; } ~T () { print ("gone %s\n", this.n); } }
@@ -59,25 +38,25 @@ empty = st.Empty here
 abbrev carried_error : Core
 carried_error =
     program (object_class ∷ class 1 (text ∷ []) [] (Some 2) ∷ []) (
-      method (frame [] (error ∷ []) void) (block [] (
-        st.Try (block [] (run (call 4 (moved t (make (codes "a")) ∷ moved t (make (codes "b")) ∷ [])) ∷ [])) (
-          st.Catch (Some 2) (local 0 error ∷ []) (block (of 0 error ∷ []) (
-            say (codes "caught %s") (apply (op.Part part.ErrorMessage) (local 0 error ∷ []) ∷ []) ∷ []
-          )) here
-          ∷ []
-        ) (block [] (say (codes "finally") [] ∷ []) ∷ []) here
-        ∷ []
-      ))
-      ∷ creation (frame (text_param ∷ []) [] void) (making.Object []) (block [] (assign text (field this 0 text) (copied n) ∷ []))
-      ∷ method (frame [] [] void) (block [] (say (codes "gone %s") (field this 0 text ∷ []) ∷ []))
-      ∷ method (frame (text_param ∷ []) [] t) (block [] (
-        st.If (apply (op.CompareTexts compare.Equal) (n ∷ literal (codes "b") ∷ []))
-          (st.Throw (moved error (apply (op.NewError 2 (pos 0) (codes "no %s")) (n ∷ []))) here) empty here
-        ∷ st.Return (moved t (new 1 1 (keep (unowned shape.Text) n ∷ [])) ∷ []) here
-        ∷ []
-      ))
-      ∷ method (frame (by_value t ∷ by_value t ∷ []) [] void) (block [] (say (codes "used") [] ∷ []))
-      ∷ []
+    method (frame [] (error ∷ []) void) (block [] (
+    st.Try (block [] (run (call 4 (moved t (make (codes "a")) ∷ moved t (make (codes "b")) ∷ [])) ∷ [])) (
+    st.Catch (Some 2) (local 0 error ∷ []) (block (of 0 error ∷ []) (
+    say (codes "caught %s") (apply (op.Part part.ErrorMessage) (local 0 error ∷ []) ∷ []) ∷ []
+    )) here
+    ∷ []
+    ) (block [] (say (codes "finally") [] ∷ []) ∷ []) here
+    ∷ []
+    ))
+    ∷ creation (frame (text_param ∷ []) [] void) (making.Object []) (block [] (assign text (field this 0 text) (copied n) ∷ []))
+    ∷ method (frame [] [] void) (block [] (say (codes "gone %s") (field this 0 text ∷ []) ∷ []))
+    ∷ method (frame (text_param ∷ []) [] t) (block [] (
+    st.If (apply (op.CompareTexts compare.Equal) (n ∷ literal (codes "b") ∷ []))
+    (st.Throw (moved error (apply (op.NewError 2 (pos 0) (codes "no %s")) (n ∷ []))) here) empty here
+    ∷ st.Return (moved t (new 1 1 (keep (unowned shape.Text) n ∷ [])) ∷ []) here
+    ∷ []
+    ))
+    ∷ method (frame (by_value t ∷ by_value t ∷ []) [] void) (block [] (say (codes "used") [] ∷ []))
+    ∷ []
     ) []
 
 pub carried_error_row : Row carried_error quiet_world 300 (Made Object ∷ Made Text ∷ Made Error ∷ line (codes "gone a") ∷ Gone 2 ∷ Gone 1 ∷ line (codes "caught no b") ∷ Gone 3 ∷ line (codes "finally") ∷ []) (Ended (pos 0)) ([])

@@ -1,40 +1,24 @@
 -- Lambdas share the variables that they capture, and their scope goes with the last of them.
-use Rattle.std.specs.Prelude.{◌≡◌, refl, ℕ, zero, suc, true, false, List, [], ◌∷◌, ◌++◌, Option, Some, None, codes, ℤ, pos}
-use Rattle.vg_base.specs.declared.event.Entry.TheVariants.{Pick, Wait}
-use Rattle.vg_base.specs.declared.event.Event.TheVariants.{Print, Made, Gone, Dispatch}
-use Rattle.vg_base.specs.declared.event.LiveRow.{LiveRow}
-use Rattle.vg_base.specs.declared.event.Stream.TheVariants.{Out}
-use Rattle.vg_base.specs.declared.event.ThingKind.TheVariants.{Object, Text, Array, Scope, Error, Activation}
-use Rattle.vg_base.specs.declared.event.TrapKind.TheVariants as trap
-use Rattle.vg_base.specs.declared.event.VEnd.TheVariants.{Ended, Dead, Trapped, Waiting}
-use Rattle.vg_base.specs.World.{World}
+use Rattle.std.specs.Prelude.{refl, ℕ, true, false, [], ◌∷◌, None, codes, pos}
+use Rattle.vg_base.specs.declared.event.Event.TheVariants.{Made, Gone}
+use Rattle.vg_base.specs.declared.event.ThingKind.TheVariants.{Object, Scope}
+use Rattle.vg_base.specs.declared.event.VEnd.TheVariants.{Ended}
 use Rattle.vala_types.specs.declared.types.IntKind.TheVariants as kind
-use Rattle.vala_types.specs.declared.types.Item.{Item}
-use Rattle.vala_types.specs.declared.types.ItemShape.TheVariants as item
 use Rattle.vala_types.specs.declared.types.Shape.TheVariants as shape
 use Rattle.vala_types.specs.declared.types.VType.{VType}
-use Rattle.vala_types.specs.declared.owners.Change.TheVariants as change
 use Rattle.core_tree.specs.declared.core.Core.{Core}
-use Rattle.core_tree.specs.declared.lambda.Lambda.{Lambda}
 use Rattle.core_tree.specs.declared.lambda.Scope.{Scope as BlockScope}
 use Rattle.core_tree.specs.declared.lambda.ScopeAt.{ScopeAt}
 use Rattle.core_tree.specs.declared.lambda.Target.TheVariants as bound
-use Rattle.core_tree.specs.declared.lambda.ThisAt.TheVariants as from
 use Rattle.core_tree.specs.declared.lambda.Via.TheVariants as via
 use Rattle.core_tree.specs.declared.operation.Operation.TheVariants as op
 use Rattle.core_tree.specs.declared.tree.CoreExpr.{CoreExpr}
 use Rattle.core_tree.specs.declared.tree.CoreExpr.TheVariants as e
 use Rattle.core_tree.specs.declared.tree.CoreStmt.{CoreStmt}
 use Rattle.core_tree.specs.declared.tree.CoreStmt.TheVariants as st
-use Rattle.core_tree.specs.declared.types.Accessor.TheVariants as access
-use Rattle.core_tree.specs.declared.types.Making.TheVariants as making
 use Rattle.core_tree.specs.declared.values.Arithmetic.TheVariants as arithmetic
 use Rattle.core_tree.specs.declared.values.Callee.TheVariants as callee
-use Rattle.core_tree.specs.declared.values.Comparison.TheVariants as compare
-use Rattle.core_tree.specs.declared.values.LoopCall.TheVariants as loop
-use Rattle.core_tree.specs.declared.values.Part.TheVariants as part
-use Rattle.core_tree.specs.declared.values.TextCall.TheVariants as call_of
-use Rattle.core_tree.proofs.Build.{Row, here, owned, unowned, void, int, text, object, apply, number, literal, null, local, static, this, field, changed, place, assign, set, run, say, of, block, frame, by_value, method, creation, plain_creation, object_class, class, static_field, program, with_properties, with_signals, notify, quiet_world, new, call, call_on, line, text_param, keep, moved, copied}
+use Rattle.core_tree.proofs.Build.{Row, here, owned, void, int, object, apply, number, null, local, this, field, assign, set, run, say, of, block, frame, method, plain_creation, object_class, class, program, quiet_world, new, call_on, line, keep, moved}
 
 -- delegate void Act ();
 -- class Box : Object {
@@ -74,28 +58,28 @@ b = local 0 box
 abbrev shared_variable : Core
 shared_variable =
     program (object_class ∷ class 1 (act ∷ act ∷ []) [] None ∷ []) (
-      method (frame [] (box ∷ []) void) (block (of 0 box ∷ []) (
-        set b (moved box (new 1 1 []))
-        ∷ run (call_on b 2 [])
-        ∷ call_delegate (field b 0 act)
-        ∷ call_delegate (field b 0 act)
-        ∷ call_delegate (field b 1 act)
-        ∷ assign act (field b 0 act) (keep act null)
-        ∷ call_delegate (field b 1 act)
-        ∷ assign act (field b 1 act) (keep act null)
-        ∷ say (codes "end") []
-        ∷ []
-      ))
-      ∷ plain_creation
-      ∷ method (frame [] (object 0 ∷ []) void) (
-        st.Block [] (scope_of_n ∷ []) (
-          set (n_in in_block) (keep int (number 5))
-          ∷ assign act (field this 0 act) (moved act (lambda 1 (block [] (run (apply (op.Increment arithmetic.Add kind.Int32 true false) (e.PlaceAndValue (n_in in_target) here ∷ [])) ∷ []))))
-          ∷ assign act (field this 1 act) (moved act (lambda 2 (block [] (say (codes "%d") (n_in in_target ∷ []) ∷ []))))
-          ∷ []
-        ) here
-      )
-      ∷ []
+    method (frame [] (box ∷ []) void) (block (of 0 box ∷ []) (
+    set b (moved box (new 1 1 []))
+    ∷ run (call_on b 2 [])
+    ∷ call_delegate (field b 0 act)
+    ∷ call_delegate (field b 0 act)
+    ∷ call_delegate (field b 1 act)
+    ∷ assign act (field b 0 act) (keep act null)
+    ∷ call_delegate (field b 1 act)
+    ∷ assign act (field b 1 act) (keep act null)
+    ∷ say (codes "end") []
+    ∷ []
+    ))
+    ∷ plain_creation
+    ∷ method (frame [] (object 0 ∷ []) void) (
+    st.Block [] (scope_of_n ∷ []) (
+    set (n_in in_block) (keep int (number 5))
+    ∷ assign act (field this 0 act) (moved act (lambda 1 (block [] (run (apply (op.Increment arithmetic.Add kind.Int32 true false) (e.PlaceAndValue (n_in in_target) here ∷ [])) ∷ []))))
+    ∷ assign act (field this 1 act) (moved act (lambda 2 (block [] (say (codes "%d") (n_in in_target ∷ []) ∷ []))))
+    ∷ []
+    ) here
+    )
+    ∷ []
     ) []
 
 pub shared_variable_row : Row shared_variable quiet_world 300 (Made Object ∷ Made Scope ∷ line (codes "7") ∷ line (codes "7") ∷ Gone 2 ∷ line (codes "end") ∷ Gone 1 ∷ []) (Ended (pos 0)) ([])

@@ -1,40 +1,16 @@
 -- Owners that go: uses behind that, cycles, texts and moved parameters.
-use Rattle.std.specs.Prelude.{◌≡◌, refl, ℕ, zero, suc, true, false, List, [], ◌∷◌, ◌++◌, Option, Some, None, codes, ℤ, pos}
-use Rattle.vg_base.specs.declared.event.Entry.TheVariants.{Pick, Wait}
-use Rattle.vg_base.specs.declared.event.Event.TheVariants.{Print, Made, Gone, Dispatch}
-use Rattle.vg_base.specs.declared.event.LiveRow.{LiveRow}
-use Rattle.vg_base.specs.declared.event.Stream.TheVariants.{Out}
-use Rattle.vg_base.specs.declared.event.ThingKind.TheVariants.{Object, Text, Array, Scope, Error, Activation}
-use Rattle.vg_base.specs.declared.event.TrapKind.TheVariants as trap
-use Rattle.vg_base.specs.declared.event.VEnd.TheVariants.{Ended, Dead, Trapped, Waiting}
-use Rattle.vg_base.specs.World.{World}
-use Rattle.vala_types.specs.declared.types.IntKind.TheVariants as kind
-use Rattle.vala_types.specs.declared.types.Item.{Item}
-use Rattle.vala_types.specs.declared.types.ItemShape.TheVariants as item
+use Rattle.std.specs.Prelude.{refl, [], ◌∷◌, Some, None, codes, pos}
+use Rattle.vg_base.specs.declared.event.Event.TheVariants.{Made, Gone}
+use Rattle.vg_base.specs.declared.event.ThingKind.TheVariants.{Object, Text}
+use Rattle.vg_base.specs.declared.event.VEnd.TheVariants.{Ended, Dead}
 use Rattle.vala_types.specs.declared.types.Shape.TheVariants as shape
 use Rattle.vala_types.specs.declared.types.VType.{VType}
 use Rattle.vala_types.specs.declared.owners.Change.TheVariants as change
 use Rattle.core_tree.specs.declared.core.Core.{Core}
-use Rattle.core_tree.specs.declared.lambda.Lambda.{Lambda}
-use Rattle.core_tree.specs.declared.lambda.Scope.{Scope as BlockScope}
-use Rattle.core_tree.specs.declared.lambda.ScopeAt.{ScopeAt}
-use Rattle.core_tree.specs.declared.lambda.Target.TheVariants as bound
-use Rattle.core_tree.specs.declared.lambda.ThisAt.TheVariants as from
-use Rattle.core_tree.specs.declared.lambda.Via.TheVariants as via
 use Rattle.core_tree.specs.declared.operation.Operation.TheVariants as op
 use Rattle.core_tree.specs.declared.tree.CoreExpr.{CoreExpr}
-use Rattle.core_tree.specs.declared.tree.CoreExpr.TheVariants as e
-use Rattle.core_tree.specs.declared.tree.CoreStmt.{CoreStmt}
-use Rattle.core_tree.specs.declared.tree.CoreStmt.TheVariants as st
-use Rattle.core_tree.specs.declared.types.Accessor.TheVariants as access
-use Rattle.core_tree.specs.declared.types.Making.TheVariants as making
-use Rattle.core_tree.specs.declared.values.Arithmetic.TheVariants as arithmetic
-use Rattle.core_tree.specs.declared.values.Callee.TheVariants as callee
-use Rattle.core_tree.specs.declared.values.Comparison.TheVariants as compare
-use Rattle.core_tree.specs.declared.values.LoopCall.TheVariants as loop
-use Rattle.core_tree.specs.declared.values.Part.TheVariants as part
 use Rattle.core_tree.specs.declared.values.TextCall.TheVariants as call_of
-use Rattle.core_tree.proofs.Build.{Row, here, owned, unowned, void, int, text, object, apply, number, literal, null, local, static, this, field, changed, place, assign, set, run, say, of, block, frame, by_value, method, creation, plain_creation, object_class, class, static_field, program, with_properties, with_signals, notify, quiet_world, new, call, call_on, line, text_param, keep, moved, copied}
+use Rattle.core_tree.proofs.Build.{Row, unowned, void, text, object, apply, number, literal, null, local, static, field, changed, place, assign, set, run, say, of, block, frame, by_value, method, plain_creation, object_class, class, static_field, program, quiet_world, new, call, call_on, line, keep, moved, copied}
 
 abbrev foo : VType
 foo = object 1
@@ -46,19 +22,19 @@ foo = object 1
 abbrev unowned_argument : Core
 unowned_argument =
     program (object_class ∷ class 1 [] [] None ∷ []) (
-      method (frame [] [] void) (block [] (
-        assign foo (static 0 foo) (moved foo (new 1 1 []))
-        ∷ run (call 3 (keep (unowned (shape.Class 1)) (static 0 foo) ∷ []))
-        ∷ []
-      ))
-      ∷ plain_creation
-      ∷ method (frame [] [] void) (block [] (say (codes "go") [] ∷ []))
-      ∷ method (frame (by_value (unowned (shape.Class 1)) ∷ []) [] void) (block [] (
-        assign foo (static 0 foo) (keep foo null)
-        ∷ run (call_on (local 0 (unowned (shape.Class 1))) 2 [])
-        ∷ []
-      ))
-      ∷ []
+    method (frame [] [] void) (block [] (
+    assign foo (static 0 foo) (moved foo (new 1 1 []))
+    ∷ run (call 3 (keep (unowned (shape.Class 1)) (static 0 foo) ∷ []))
+    ∷ []
+    ))
+    ∷ plain_creation
+    ∷ method (frame [] [] void) (block [] (say (codes "go") [] ∷ []))
+    ∷ method (frame (by_value (unowned (shape.Class 1)) ∷ []) [] void) (block [] (
+    assign foo (static 0 foo) (keep foo null)
+    ∷ run (call_on (local 0 (unowned (shape.Class 1))) 2 [])
+    ∷ []
+    ))
+    ∷ []
     ) (static_field foo ∷ [])
 
 pub unowned_argument_row : Row unowned_argument quiet_world 120 (Made Object ∷ Gone 1 ∷ []) Dead ([])
@@ -71,16 +47,16 @@ unowned_argument_row = record { says = refl; ends = refl; lives = refl }
 abbrev nodes : VType → CoreExpr → Core
 nodes up p =
     program (object_class ∷ class 1 (up ∷ foo ∷ []) [] (Some 2) ∷ []) (
-      method (frame [] (foo ∷ foo ∷ []) void) (block (of 0 foo ∷ of 1 foo ∷ []) (
-        set (local 0 foo) (moved foo (new 1 1 []))
-        ∷ set (local 1 foo) (moved foo (new 1 1 []))
-        ∷ assign foo (field (local 0 foo) 1 foo) (changed change.AddOwner foo (local 1 foo))
-        ∷ assign up (field (local 1 foo) 0 up) p
-        ∷ []
-      ))
-      ∷ plain_creation
-      ∷ method (frame [] [] void) (block [] (say (codes "gone") [] ∷ []))
-      ∷ []
+    method (frame [] (foo ∷ foo ∷ []) void) (block (of 0 foo ∷ of 1 foo ∷ []) (
+    set (local 0 foo) (moved foo (new 1 1 []))
+    ∷ set (local 1 foo) (moved foo (new 1 1 []))
+    ∷ assign foo (field (local 0 foo) 1 foo) (changed change.AddOwner foo (local 1 foo))
+    ∷ assign up (field (local 1 foo) 0 up) p
+    ∷ []
+    ))
+    ∷ plain_creation
+    ∷ method (frame [] [] void) (block [] (say (codes "gone") [] ∷ []))
+    ∷ []
     ) []
 
 abbrev cycle : Core
@@ -101,17 +77,17 @@ weak_cycle_row = record { says = refl; ends = refl; lives = refl }
 abbrev dangling_text : Core
 dangling_text =
     program (object_class ∷ []) (
-      method (frame [] (unowned shape.Text ∷ text ∷ []) void) (block (of 0 (unowned shape.Text) ∷ []) (
-        set (local 0 (unowned shape.Text)) (keep (unowned shape.Text) (literal []))
-        ∷ block (of 1 text ∷ []) (
-          set (local 1 text) (moved text (apply (op.TextFunction call_of.Substring) (literal (codes "ab") ∷ number 0 ∷ number 1 ∷ [])))
-          ∷ assign (unowned shape.Text) (local 0 (unowned shape.Text)) (keep (unowned shape.Text) (local 1 text))
-          ∷ []
-        )
-        ∷ say (codes "%s") (local 0 (unowned shape.Text) ∷ [])
-        ∷ []
-      ))
-      ∷ []
+    method (frame [] (unowned shape.Text ∷ text ∷ []) void) (block (of 0 (unowned shape.Text) ∷ []) (
+    set (local 0 (unowned shape.Text)) (keep (unowned shape.Text) (literal []))
+    ∷ block (of 1 text ∷ []) (
+    set (local 1 text) (moved text (apply (op.TextFunction call_of.Substring) (literal (codes "ab") ∷ number 0 ∷ number 1 ∷ [])))
+    ∷ assign (unowned shape.Text) (local 0 (unowned shape.Text)) (keep (unowned shape.Text) (local 1 text))
+    ∷ []
+    )
+    ∷ say (codes "%s") (local 0 (unowned shape.Text) ∷ [])
+    ∷ []
+    ))
+    ∷ []
     ) []
 
 pub dangling_text_row : Row dangling_text quiet_world 120 (Made Text ∷ Gone 1 ∷ []) Dead ([])
@@ -123,13 +99,13 @@ dangling_text_row = record { says = refl; ends = refl; lives = refl }
 abbrev moved_twice : Core
 moved_twice =
     program (object_class ∷ []) (
-      method (frame [] (text ∷ []) void) (block (of 0 text ∷ []) (
-        set (local 0 text) (copied (literal (codes "x")))
-        ∷ run (call 1 (moved text (taken (local 0 text)) ∷ moved text (taken (local 0 text)) ∷ []))
-        ∷ []
-      ))
-      ∷ method (frame (by_value text ∷ by_value text ∷ []) [] void) (block [] (say (codes "%s %s") (local 0 text ∷ local 1 text ∷ []) ∷ []))
-      ∷ []
+    method (frame [] (text ∷ []) void) (block (of 0 text ∷ []) (
+    set (local 0 text) (copied (literal (codes "x")))
+    ∷ run (call 1 (moved text (taken (local 0 text)) ∷ moved text (taken (local 0 text)) ∷ []))
+    ∷ []
+    ))
+    ∷ method (frame (by_value text ∷ by_value text ∷ []) [] void) (block [] (say (codes "%s %s") (local 0 text ∷ local 1 text ∷ []) ∷ []))
+    ∷ []
     ) []
   where
     taken : CoreExpr → CoreExpr

@@ -1,6 +1,5 @@
 -- Integers: their widths, what operators give, and how numbers are written.
-use Rattle.std.specs.Prelude.{ℕ, zero, suc, ◌+◌, ◌-◌, ◌*◌, ◌/◌, ◌%◌, ◌^◌, ◌==◌, ◌&&◌, ◌||◌, nat_lt, nat_le, Bool, true, false, not, if◌then◌else◌, ℤ, pos, negsuc, neg_ℤ, ◌+ℤ◌, ◌*ℤ◌, int_lt, int_le, int_div, int_rem, unsigned_abs, bit_and, bit_or, bit_xor, List, [], ◌∷◌, ◌++◌, Result, Ok, Err, decimal}
-use Rattle.std.specs.List.{list_any}
+use Rattle.std.specs.Prelude.{ℕ, zero, suc, ◌-◌, ◌/◌, ◌%◌, ◌^◌, ◌==◌, ◌&&◌, ◌||◌, nat_lt, Bool, true, false, not, if◌then◌else◌, ℤ, pos, negsuc, neg_ℤ, ◌+ℤ◌, ◌*ℤ◌, int_lt, int_le, int_div, int_rem, bit_and, bit_or, bit_xor, List, [], ◌∷◌, Result, Ok, Err, decimal}
 use Rattle.vg_base.specs.declared.event.TrapKind.{TrapKind}
 use Rattle.vg_base.specs.declared.event.TrapKind.TheVariants as trap
 use Rattle.vala_types.specs.declared.types.IntKind.{IntKind}

@@ -1,12 +1,9 @@
 -- Async methods: activations, where they park, and how they complete.
-use Rattle.std.specs.Prelude.{ℕ, zero, suc, ◌+◌, ◌==◌, Bool, true, false, not, if◌then◌else◌, ℤ, pos, List, [], ◌∷◌, ◌++◌, length, map, flat_map, Option, Some, None, slice_get, slice_index_or}
-use Rattle.vg_base.specs.declared.event.VEnd.TheVariants.{Trapped, Dead}
+use Rattle.std.specs.Prelude.{ℕ, zero, suc, ◌+◌, ◌==◌, Bool, true, false, if◌then◌else◌, List, [], ◌∷◌, ◌++◌, length, map, flat_map, Option, Some, None, slice_get}
+use Rattle.vg_base.specs.declared.event.VEnd.TheVariants.{Trapped}
 use Rattle.vg_base.specs.declared.event.TrapKind.TheVariants as trap
-use Rattle.vala_types.specs.declared.types.Shape.{Shape}
 use Rattle.vala_types.specs.declared.types.Shape.TheVariants as shape
 use Rattle.vala_types.specs.declared.types.VType.{VType}
-use Rattle.vala_types.specs.declared.owners.Change.{Change}
-use Rattle.vala_types.specs.declared.owners.Change.TheVariants as change
 use Rattle.vala_types.specs.Rows.{into_owner}
 use Rattle.core_tree.specs.declared.core.Core.{Core}
 use Rattle.core_tree.specs.declared.lambda.CoreParameter.{CoreParameter}
@@ -14,8 +11,8 @@ use Rattle.core_tree.specs.declared.types.CoreMethod.{CoreMethod}
 use Rattle.core_tree.specs.State
 use Rattle.core_tree.specs.State.{Value, Null, Number, Thing, Cells, Delegate, Code, Resume, Place, Operand, Given, Owned, OwnedCells, At, Frame, Way, Throw, Source, Parked, Item, Push, ChangeTop, Store, Execute, GiveUp, Leave, BeginBody, EndBody, BackTo, ParkFor, Receive, ThingState, Content, ActivationOf}
 use Rattle.core_tree.specs.Owners.{thing_at}
-use Rattle.core_tree.specs.Places.{Out, quiet, stop, stuck, next, cells_of, is_owning, zero_of, empty_places, firsts, range, held, put, owning_from, add_places, with_thing, next_serial, made, uses, is_null, content_of, unless, value_of, give, give_owned}
-use Rattle.core_tree.specs.Calls.{tested, used, is_void, is_struct, give_cells}
+use Rattle.core_tree.specs.Places.{Out, quiet, stop, stuck, next, cells_of, is_owning, zero_of, empty_places, firsts, held, put, add_places, with_thing, next_serial, made, is_null, unless, value_of, give}
+use Rattle.core_tree.specs.Calls.{tested, used, is_void, is_struct}
 use Rattle.core_tree.specs.Storing.{take_at}
 
 -- The places of an activation: `this`, the arguments, the callback, the result, and the error that stands for it.
@@ -87,14 +84,14 @@ put_callback s n (o ∷ os) = put_into s n callback_type o
 abbrev pub make_activation : Core → State.State → ℕ → CoreMethod → Value → List Operand → Option ℕ → List Item → Out
 make_activation core s number m this os waiter after = (
   next (
-    (if is_null this then [] else put_into s (suc (length s.places)) this_type (Given this))
-    ++ put_arguments core s (parameters_at core (suc (length s.places)) m) m.locals.parameters os
-    ++ put_callback s (callback_at core (suc (length s.places)) m) (behind (length m.locals.parameters) os)
-    ++ BeginBody (next_serial s) ∷ after
-  ) (
-    with_thing (add_places s (record { owning = true; holds = Thing (next_serial s); within = None } ∷ [])) (ActivationOf number (length s.places) waiter)
+      (if is_null this then [] else put_into s (suc (length s.places)) this_type (Given this))
+      ++ put_arguments core s (parameters_at core (suc (length s.places)) m) m.locals.parameters os
+      ++ put_callback s (callback_at core (suc (length s.places)) m) (behind (length m.locals.parameters) os)
+      ++ BeginBody (next_serial s) ∷ after
+      ) (
+      with_thing (add_places s (record { owning = true; holds = Thing (next_serial s); within = None } ∷ [])) (ActivationOf number (length s.places) waiter)
       (empty_places core (Some (next_serial s)) (activation_types m))
-  ),
+      ),
   made (ActivationOf number (length s.places) waiter),
 )
 
@@ -197,6 +194,7 @@ with_activation core s t go = of_thing (thing_at s t)
         of_method None = stuck s
         of_method (Some m) = go first m number slot waiter
     of_content first _ = stuck s
+
     of_thing : Option ThingState → Out
     of_thing None = stuck s
     of_thing (Some x) = of_content x.first x.content

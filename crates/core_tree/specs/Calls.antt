@@ -1,5 +1,5 @@
 -- Calls: the arguments, the frame of a call, and its end.
-use Rattle.std.specs.Prelude.{ℕ, zero, suc, ◌+◌, ◌==◌, Bool, true, false, if◌then◌else◌, List, [], ◌∷◌, ◌++◌, length, map, reverse, flat_map, Option, Some, None, slice_get, slice_index_or}
+use Rattle.std.specs.Prelude.{ℕ, suc, ◌+◌, Bool, true, false, if◌then◌else◌, List, [], ◌∷◌, ◌++◌, length, map, Option, Some, None}
 use Rattle.vg_base.specs.declared.event.VEnd.{VEnd}
 use Rattle.vg_base.specs.declared.event.VEnd.TheVariants.{Trapped, Dead}
 use Rattle.vg_base.specs.declared.event.TrapKind.{TrapKind}
@@ -17,8 +17,7 @@ use Rattle.core_tree.specs.declared.lambda.Mode.TheVariants as mode
 use Rattle.core_tree.specs.declared.lambda.Locals.{Locals}
 use Rattle.core_tree.specs.State
 use Rattle.core_tree.specs.State.{Value, Null, Thing, Arguments, Cells, Place, Operand, Given, Owned, OwnedCells, At, CellOf, ElementOf, PropertyOf, VariableOf, Frame, Item, GiveUp, Clear, EndCall, ThingState, Content, ArrayOf}
-use Rattle.core_tree.specs.Owners.{thing_at}
-use Rattle.core_tree.specs.Places.{Out, quiet, next, cells_of, is_owning, empty_place, empty_places, firsts, range, held, put, owning_from, add_places, uses, value_of, give, Found, There, Fails, Nowhere, found, find_at, find_cell, find_element, find_variable, content_of}
+use Rattle.core_tree.specs.Places.{cells_of, is_owning, empty_place, empty_places, firsts, range, held, put, owning_from, add_places, uses, value_of, give, Found, There, Fails, Nowhere, found, find_at, find_cell, find_element, find_variable, content_of}
 
 -- Elements
 
@@ -187,7 +186,7 @@ open_arranged core s locals this target activation a =
     let r : ℕ = suc n in
     let l : ℕ = r + length (cells_of core locals.result) in
     let opened : State.State =
-      add_places (emptied s a.left) (a.places ++ record { owning = false; holds = this; within = None } ∷ empty_places core None (locals.result ∷ locals.others)) in
+    add_places (emptied s a.left) (a.places ++ record { owning = false; holds = this; within = None } ∷ empty_places core None (locals.result ∷ locals.others)) in
     record {
       state = record opened {
         frame = record {

@@ -1,5 +1,5 @@
 -- What happens to a value that goes into a place: nothing, a move, a copy, or one more owner.
-use Rattle.std.specs.Prelude.{ℕ, zero, suc, ◌+◌, ◌^◌, nat_le, Bool, true, false, if◌then◌else◌, List, [], ◌∷◌, ◌++◌, length, map, zip, replicate, Option, Some, None, slice_get}
+use Rattle.std.specs.Prelude.{ℕ, suc, ◌^◌, nat_le, false, if◌then◌else◌, List, [], ◌∷◌, length, zip, replicate, Option, Some, None, slice_get}
 use Rattle.vg_base.specs.declared.event.VEnd.TheVariants.{Trapped, Dead}
 use Rattle.vg_base.specs.declared.event.TrapKind.TheVariants as trap
 use Rattle.vala_types.specs.declared.types.Item.{Item as ElementType}
@@ -13,8 +13,8 @@ use Rattle.core_tree.specs.declared.core.Core.{Core}
 use Rattle.core_tree.specs.State
 use Rattle.core_tree.specs.State.{Value, Null, Number, Literal, Arguments, Thing, Message, Cells, Place, Operand, Given, Owned, OwnedCells, Item, CopyCells, ThingState, Content, TextOf, ArrayOf, ErrorOf}
 use Rattle.core_tree.specs.Owners.{thing_at}
-use Rattle.core_tree.specs.Places.{Out, quiet, stop, stuck, next, cells_of, is_owning, zero_of, empty_places, range, held, put, is_owning_place, add_places, with_thing, next_serial, made, reads, cannot_be_owned, is_null, content_of, unless, value_of, give, give_owned, give_made, within_gone}
-use Rattle.core_tree.specs.Calls.{type_of_item, is_struct, give_cells}
+use Rattle.core_tree.specs.Places.{Out, quiet, stop, stuck, next, cells_of, is_owning, empty_places, range, held, put, is_owning_place, add_places, with_thing, next_serial, made, reads, cannot_be_owned, is_null, content_of, unless, value_of, give, give_owned, give_made, within_gone}
+use Rattle.core_tree.specs.Calls.{type_of_item, give_cells}
 
 -- the bytes of a text, or of an error's message
 abbrev pub bytes_in : Option Content → List ℕ

@@ -1,11 +1,9 @@
 -- What a call calls: methods, slots, delegates and accessors.
-use Rattle.std.specs.Prelude.{ℕ, zero, suc, ◌+◌, ◌==◌, Bool, true, false, if◌then◌else◌, ℤ, pos, List, [], ◌∷◌, ◌++◌, length, map, find, Option, Some, None, slice_get, slice_index_or}
-use Rattle.vg_base.specs.declared.event.VEnd.TheVariants.{Trapped, Dead}
+use Rattle.std.specs.Prelude.{ℕ, ◌==◌, if◌then◌else◌, pos, List, [], ◌∷◌, ◌++◌, map, find, Option, Some, None, slice_get, slice_index_or}
+use Rattle.vg_base.specs.declared.event.VEnd.TheVariants.{Trapped}
 use Rattle.vg_base.specs.declared.event.TrapKind.TheVariants as trap
-use Rattle.vala_types.specs.declared.types.VType.{VType}
 use Rattle.core_tree.specs.declared.core.Core.{Core}
 use Rattle.core_tree.specs.declared.lambda.Lambda.{Lambda}
-use Rattle.core_tree.specs.declared.lambda.ScopeAt.{ScopeAt}
 use Rattle.core_tree.specs.declared.lambda.Target.{Target}
 use Rattle.core_tree.specs.declared.lambda.Target.TheVariants as bound
 use Rattle.core_tree.specs.declared.lambda.ThisAt.{ThisAt}
@@ -22,8 +20,8 @@ use Rattle.core_tree.specs.declared.values.Callee.{Callee}
 use Rattle.core_tree.specs.declared.values.Callee.TheVariants as callee
 use Rattle.core_tree.specs.State
 use Rattle.core_tree.specs.State.{Value, Null, Number, Thing, Cells, Delegate, Code, Method, Body, Resume, Operand, Given, Item, Push, Execute, EndCall, BackTo, Parked, Content, ObjectOf}
-use Rattle.core_tree.specs.Places.{Out, quiet, stop, stuck, next, held, unless, value_of, give_bool, Found, There, Fails, Nowhere, content_of, scope_from, this_of}
-use Rattle.core_tree.specs.Calls.{Opening, open_frame, tested, used, is_struct}
+use Rattle.core_tree.specs.Places.{Out, quiet, stop, stuck, next, held, unless, value_of, Found, There, Fails, Nowhere, content_of, scope_from, this_of}
+use Rattle.core_tree.specs.Calls.{Opening, open_frame, tested, used}
 
 -- the local with a number begins at this place
 abbrev pub local_place : State.State → ℕ → ℕ

@@ -1,12 +1,11 @@
 -- The ways out: an item is passed, or what it ends is done first. Errors are caught here.
-use Rattle.std.specs.Prelude.{ℕ, zero, suc, ◌==◌, Bool, true, false, if◌then◌else◌, List, [], ◌∷◌, ◌++◌, map, Option, Some, None}
+use Rattle.std.specs.Prelude.{ℕ, ◌==◌, Bool, true, false, if◌then◌else◌, List, [], ◌∷◌, ◌++◌, map, Option, Some, None}
 use Rattle.core_tree.specs.declared.core.Core.{Core}
 use Rattle.core_tree.specs.declared.tree.CoreExpr.{CoreExpr}
 use Rattle.core_tree.specs.declared.tree.CoreStmt.{CoreStmt, out-CoreStmt, CoreStmt-F}
 use Rattle.core_tree.specs.State
 use Rattle.core_tree.specs.State.{Value, Operand, Owned, Frame, Way, Break, Continue, Return, Throw, Item, Locate, Push, Store, Execute, EndStatement, EndBlock, GiveUp, Clear, Turn, Steps, Each, EndSwitch, Choose, Leave, Catches, Finally, EndCall, EndMaking, EndBody, End, EndMain, Content, ErrorOf}
 use Rattle.core_tree.specs.Places.{Out, quiet, stuck, next, held, content_of, range, owning_from, cells_of}
-use Rattle.core_tree.specs.Calls.{return_to}
 use Rattle.core_tree.specs.Async.{keep_error}
 use Rattle.core_tree.specs.Statements.{Statement, enter_block}
 use Rattle.std.specs.Prelude.{length}

@@ -1,5 +1,5 @@
 -- The main loop: its turns, its sources, and what they call.
-use Rattle.std.specs.Prelude.{ℕ, zero, suc, ◌+◌, ◌-◌, ◌%◌, ◌^◌, ◌==◌, Bool, true, false, if◌then◌else◌, ℤ, pos, List, [], ◌∷◌, ◌++◌, length, map, Option, Some, None}
+use Rattle.std.specs.Prelude.{ℕ, suc, ◌%◌, ◌^◌, ◌==◌, Bool, true, false, if◌then◌else◌, ℤ, pos, List, [], ◌∷◌, ◌++◌, length, Option, Some, None}
 use Rattle.vg_base.specs.declared.event.VEnd.TheVariants.{Trapped, Dead, Waiting}
 use Rattle.vg_base.specs.declared.event.TrapKind.TheVariants as trap
 use Rattle.vg_base.specs.declared.event.Event.TheVariants.{Dispatch}
@@ -36,11 +36,11 @@ without_source n (x ∷ xs) = if x.id == n then xs else x ∷ without_source n x
 abbrev pub add_source : State.State → Option ℕ → ℕ → Operand → Out
 add_source s interval due o =
     quiet (give_number (
-      record (left_empty s o) {
-        places = (left_empty s o).places ++ record (handler_place s o) { owning = true } ∷ [];
-        sources = s.sources ++ record { id = suc s.last_source; interval = interval; due = due; place = length s.places; completes = None } ∷ [];
-        last_source = suc s.last_source;
-      }
+    record (left_empty s o) {
+      places = (left_empty s o).places ++ record (handler_place s o) { owning = true } ∷ [];
+      sources = s.sources ++ record { id = suc s.last_source; interval = interval; due = due; place = length s.places; completes = None } ∷ [];
+      last_source = suc s.last_source;
+    }
     ) (pos (suc s.last_source % 2 ^ 32)))
 
 abbrev pub is_function : Option ℕ → Bool
@@ -70,11 +70,11 @@ remove_first s (Some x) = quiet (remove_source (give_bool s true) x)
 abbrev pub start_loop : State.State → Value → Out
 start_loop s v =
     quiet (next (LoopTurn (length s.places) ∷ []) (
-      record s {
-        places = s.places ++ record { owning = true; holds = v; within = None } ∷ [];
-        running = Some (length s.places);
-        is_quitting = false;
-      }
+    record s {
+      places = s.places ++ record { owning = true; holds = v; within = None } ∷ [];
+      running = Some (length s.places);
+      is_quitting = false;
+    }
     ))
 
 abbrev pub run_in : State.State → Value → Option ℕ → Out

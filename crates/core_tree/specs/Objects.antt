@@ -1,8 +1,7 @@
 -- Making objects, and the ending of every thing.
-use Rattle.std.specs.Prelude.{ℕ, zero, suc, ◌+◌, ◌-◌, ◌==◌, Bool, true, false, if◌then◌else◌, List, [], ◌∷◌, ◌++◌, length, map, reverse, drop, flat_map, filter, Option, Some, None, slice_get}
-use Rattle.std.specs.List.{list_any}
+use Rattle.std.specs.Prelude.{ℕ, zero, suc, ◌+◌, ◌-◌, ◌==◌, Bool, true, false, if◌then◌else◌, List, [], ◌∷◌, ◌++◌, length, map, reverse, flat_map, Option, Some, None, slice_get}
 use Rattle.vg_base.specs.declared.event.Event.TheVariants.{Gone as Went}
-use Rattle.vg_base.specs.Headline.{Said, Happens}
+use Rattle.vg_base.specs.Headline.{Happens}
 use Rattle.vala_types.specs.declared.types.Shape.TheVariants as shape
 use Rattle.vala_types.specs.declared.types.VType.{VType}
 use Rattle.core_tree.specs.declared.core.Core.{Core}
@@ -16,10 +15,9 @@ use Rattle.core_tree.specs.declared.types.Making.TheVariants as making
 use Rattle.core_tree.specs.State
 use Rattle.core_tree.specs.State.{Value, Null, Number, Thing, Operand, Given, Frame, Stage, Destructor, Places, Handlers, Last, Handler, Item, Evaluate, Locate, Push, Store, Execute, EndStatement, EndCall, EndMaking, BeginMaking, CallBase, MakeObject, SetProperty, RunMethod, GiveUp, End, Status, Gone, ThingState, Content, ObjectOf}
 use Rattle.core_tree.specs.Owners.{thing_at}
-use Rattle.core_tree.specs.Places.{Out, quiet, stuck, next, zero_of, empty_places, range, held, put, owning_from, is_owning_place, with_thing, with_status, next_serial, made, give_up, unless, value_of}
+use Rattle.core_tree.specs.Places.{Out, quiet, stuck, next, zero_of, empty_places, range, held, put, owning_from, is_owning_place, with_thing, with_status, next_serial, made, give_up, unless}
 use Rattle.core_tree.specs.Calls.{Opening, open_frame, tested}
 use Rattle.core_tree.specs.Invoke.{class_info, call_method}
-use Rattle.core_tree.specs.Storing.{set_property}
 
 abbrev pub base_in : Option ClassInfo → Option ℕ
 base_in None = None
@@ -158,8 +156,8 @@ object_work core class ps os =
 abbrev pub make_object : Core → State.State → ℕ → List ℕ → List Operand → Out
 make_object core s class ps os = (
   next (object_work core class ps os) (
-    put (with_thing s (ObjectOf class) (empty_places core (Some (next_serial s)) (class_cells (class_info core class)))) s.frame.this (Thing (next_serial s))
-  ),
+      put (with_thing s (ObjectOf class) (empty_places core (Some (next_serial s)) (class_cells (class_info core class)))) s.frame.this (Thing (next_serial s))
+      ),
   made (ObjectOf class),
 )
 

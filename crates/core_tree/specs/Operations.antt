@@ -1,5 +1,5 @@
 -- What an operation does when its parts are there: a case for each.
-use Rattle.std.specs.Prelude.{ℕ, zero, suc, ◌+◌, ◌*◌, ◌-◌, ◌^◌, ◌%◌, ◌==◌, nat_le, Bool, true, false, not, if◌then◌else◌, ℤ, pos, negsuc, List, [], ◌∷◌, ◌++◌, length, map, flat_map, replicate, codes, Option, Some, None, Result, Ok, Err, slice_get, slice_index_or}
+use Rattle.std.specs.Prelude.{ℕ, zero, suc, ◌^◌, ◌%◌, ◌==◌, nat_le, Bool, true, false, if◌then◌else◌, ℤ, pos, negsuc, List, [], ◌∷◌, ◌++◌, length, map, flat_map, replicate, codes, Option, Some, None, Result, Ok, Err, slice_index_or}
 use Rattle.std.specs.List.{list_any}
 use Rattle.vg_base.specs.declared.event.VEnd.TheVariants.{Trapped, Dead}
 use Rattle.vg_base.specs.declared.event.TrapKind.{TrapKind}
@@ -7,9 +7,8 @@ use Rattle.vg_base.specs.declared.event.TrapKind.TheVariants as trap
 use Rattle.vg_base.specs.declared.event.Stream.{Stream}
 use Rattle.vg_base.specs.declared.event.Stream.TheVariants as stream
 use Rattle.vg_base.specs.declared.event.Event.TheVariants.{Print}
-use Rattle.vg_base.specs.Headline.{Said, Happens}
+use Rattle.vg_base.specs.Headline.{Happens}
 use Rattle.vala_types.specs.declared.types.IntKind.{IntKind}
-use Rattle.vala_types.specs.declared.types.IntKind.TheVariants as int
 use Rattle.vala_types.specs.declared.types.Item.{Item as ElementType}
 use Rattle.vala_types.specs.declared.types.Shape.TheVariants as shape
 use Rattle.vala_types.specs.declared.types.VType.{VType}
@@ -18,7 +17,6 @@ use Rattle.core_tree.specs.declared.operation.Operation.{Operation}
 use Rattle.core_tree.specs.declared.operation.Operation.TheVariants as op
 use Rattle.core_tree.specs.declared.types.ClassInfo.{ClassInfo}
 use Rattle.core_tree.specs.declared.values.Arithmetic.{Arithmetic}
-use Rattle.core_tree.specs.declared.values.Arithmetic.TheVariants as arithmetic
 use Rattle.core_tree.specs.declared.values.Callee.{Callee}
 use Rattle.core_tree.specs.declared.values.Callee.TheVariants as callee
 use Rattle.core_tree.specs.declared.values.Comparison.{Comparison}
@@ -28,15 +26,14 @@ use Rattle.core_tree.specs.declared.values.TextCall.{TextCall}
 use Rattle.core_tree.specs.declared.values.TextCall.TheVariants as text
 use Rattle.core_tree.specs.State
 use Rattle.core_tree.specs.State.{Value, Null, Number, Literal, Arguments, Thing, Message, Property, Cells, Delegate, Code, Method, Place, Operand, Given, Owned, OwnedCells, At, CellOf, ElementOf, PropertyOf, VariableOf, Frame, Item, Push, Store, ReadAway, Perform, ThingState, Content, ObjectOf, TextOf, ArrayOf, ErrorOf}
-use Rattle.core_tree.specs.Owners.{thing_at}
 use Rattle.core_tree.specs.Arithmetic.{wrap, calculate, compare_numbers, compared, bytes_less, bytes_equal, signed}
 use Rattle.core_tree.specs.Formats.{Argument, Integer, Written, formatted}
 use Rattle.core_tree.specs.Texts.{TextResult, Makes, Gives, Traps, Nothing, apply_text, line_of, behind_line, before_zero}
-use Rattle.core_tree.specs.Places.{Out, quiet, stop, stuck, next, cells_of, is_owning, empty_place, empty_places, range, held, put, owning_from, add_places, with_thing, next_serial, made, uses, reads, is_null, cannot_be_owned, content_of, release, unless, value_of, give, give_value, give_number, give_bool, give_owned, give_made, Found, There, Fails, Nowhere, find_cell}
-use Rattle.core_tree.specs.Calls.{type_of_item, find, values_of, left_by, filled, emptied, is_struct, give_cells}
+use Rattle.core_tree.specs.Places.{Out, quiet, stop, stuck, next, cells_of, range, held, put, owning_from, add_places, with_thing, next_serial, made, uses, reads, is_null, cannot_be_owned, content_of, release, unless, value_of, give, give_value, give_number, give_bool, give_owned, give_made, There}
+use Rattle.core_tree.specs.Calls.{type_of_item, find, values_of, left_by, filled, emptied, give_cells}
 use Rattle.core_tree.specs.Changes.{bytes_of, give_text, change, cells_in, empty_array}
-use Rattle.core_tree.specs.Invoke.{local_place, way_begins, find_this, with_found, class_in, class_of, member_in, call, with_receiver}
-use Rattle.core_tree.specs.Storing.{same_reference, stands, read, get_property, read_target, store, take}
+use Rattle.core_tree.specs.Invoke.{local_place, way_begins, find_this, with_found, class_of, member_in, call, with_receiver}
+use Rattle.core_tree.specs.Storing.{same_reference, read, get_property, take}
 use Rattle.core_tree.specs.Objects.{new_object}
 use Rattle.core_tree.specs.Signals.{emit, connect, disconnect, disconnect_id}
 use Rattle.core_tree.specs.Async.{begin, yield_call, end, callback}
@@ -174,7 +171,7 @@ within_thing t (p ∷ ps) = record p { within = Some t } ∷ within_thing t ps
 abbrev pub list_array : Core → State.State → ElementType → List Operand → Out
 list_array core s of os =
     give_made (emptied s (flat_map left_by os)) (ArrayOf of (length os)) (
-      within_thing (next_serial s) (filled (flat_map (cells_of core) (replicate (length os) (type_of_item of))) (flat_map (values_of s) os))
+    within_thing (next_serial s) (filled (flat_map (cells_of core) (replicate (length os) (type_of_item of))) (flat_map (values_of s) os))
     )
 
 -- a struct whose cells hold these values, or zeros behind them
@@ -254,6 +251,9 @@ abbrev pub increment : State.State → Arithmetic → IntKind → Bool → Bool 
 increment s o kind is_postfix is_used target a =
     with_number s (value_of s a) (λ x. increment_by s kind is_postfix is_used target x (calculate o kind x (pos 1)))
 
+abbrev pub array_type : ElementType → VType
+array_type of = record { shape = shape.Array of; owned = true; nullable = false }
+
 -- `s += t` of texts: the concatenation is a fresh text, which moves into the target
 abbrev pub assign_text : State.State → Bool → Operand → Operand → Operand → Out
 assign_text s is_used target a b =
@@ -318,7 +318,7 @@ perform core s (op.Assign kind is_used) os = on_two s os (λ t o. assign s kind 
 perform core s (op.AssignNumber o at to is_used) os = on_three s os (λ t a b. assign_number s o at to is_used t a b)
 perform core s (op.AssignText is_used) os = on_three s os (λ t a b. assign_text s is_used t a b)
 perform core s (op.Increment by kind is_postfix is_used) os = on_two s os (λ t a. increment s by kind is_postfix is_used t a)
-perform core s (op.Append of) os = on_two s os (λ t x. append core s of t x)
+perform core s (op.Append of is_used) os = on_two s os (λ t x. append core (next (then_read is_used (array_type of) t) s) of t x)
 perform core s (op.Is n) os = on_one s os (λ o. unless (reads s (value_of s o ∷ [])) s (quiet (give_bool s (is_a core s (value_of s o) n))))
 perform core s (op.As n) os = on_one s os (λ o. as_type core s o n)
 perform core s (op.Cast n) os = on_one s os (λ o. cast core s o n)

@@ -1,9 +1,9 @@
 -- Who owns a thing: the places, all of which are gone through.
-use Rattle.std.specs.Prelude.{ℕ, zero, suc, ◌+◌, ◌-◌, ◌==◌, ◌&&◌, Bool, true, false, max, List, [], ◌∷◌, length, count_by, Option, Some, None, slice_get, cond}
+use Rattle.std.specs.Prelude.{ℕ, zero, suc, ◌+◌, ◌==◌, ◌&&◌, Bool, true, false, max, List, [], ◌∷◌, count_by, Option, Some, None, slice_get}
 use Rattle.vg_base.specs.declared.event.ThingKind.{ThingKind}
 use Rattle.vg_base.specs.declared.event.ThingKind.TheVariants as kind
 use Rattle.vg_base.specs.declared.event.LiveRow.{LiveRow}
-use Rattle.core_tree.specs.State.{Value, Null, Number, Literal, Thing, Cells, Delegate, Code, Method, Body, Resume, Place, Item, End, Status, Live, Ending, Gone, Content, ObjectOf, LoopOf, TextOf, ArrayOf, ScopeOf, ErrorOf, ActivationOf, ThingState, State}
+use Rattle.core_tree.specs.State.{Value, Thing, Delegate, Method, Body, Place, Item, End, Status, Gone, Content, ObjectOf, LoopOf, TextOf, ArrayOf, ScopeOf, ErrorOf, ActivationOf, ThingState, State}
 
 -- The thing that an owning place owns while it holds this: the thing itself, or the target of a delegate.
 -- What resumes an activation owns nothing.

@@ -260,10 +260,10 @@ give_bool s b = give_number s (bit b)
 abbrev pub give_owned : State.State → Value → State.State
 give_owned s v =
     give (
-      record s {
-        places = s.places ++ record { owning = true; holds = v; within = None } ∷ [];
-        frame = record s.frame { temporaries = s.frame.temporaries ++ length s.places ∷ [] };
-      }
+    record s {
+      places = s.places ++ record { owning = true; holds = v; within = None } ∷ [];
+      frame = record s.frame { temporaries = s.frame.temporaries ++ length s.places ∷ [] };
+    }
     ) (Owned (length s.places))
 
 -- makes a thing, in an owned temporary, which is given

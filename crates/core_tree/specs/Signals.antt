@@ -1,6 +1,6 @@
 -- Signals: emissions, handlers, and the notification of properties.
-use Rattle.std.specs.Prelude.{ℕ, zero, suc, ◌+◌, ◌==◌, ◌&&◌, ◌||◌, nat_le, nat_lt, Bool, true, false, not, if◌then◌else◌, ℤ, pos, List, [], ◌∷◌, ◌++◌, length, map, reverse, Option, Some, None, slice_get}
-use Rattle.vg_base.specs.declared.event.VEnd.TheVariants.{Trapped, Dead}
+use Rattle.std.specs.Prelude.{ℕ, suc, ◌==◌, ◌&&◌, nat_le, nat_lt, Bool, true, false, not, if◌then◌else◌, ℤ, pos, List, [], ◌∷◌, ◌++◌, length, reverse, Option, Some, None, slice_get}
+use Rattle.vg_base.specs.declared.event.VEnd.TheVariants.{Dead}
 use Rattle.vala_types.specs.declared.types.VType.{VType}
 use Rattle.vala_types.specs.declared.owners.Change.TheVariants.{CopyStruct}
 use Rattle.core_tree.specs.declared.core.Core.{Core}
@@ -11,7 +11,7 @@ use Rattle.core_tree.specs.declared.values.Callee.TheVariants as callee
 use Rattle.core_tree.specs.State
 use Rattle.core_tree.specs.State.{Value, Null, Number, Thing, Property, Delegate, Code, Method, Place, Operand, Given, Owned, Handler, Emission, Phase, Before, Class, After, Item, Push, ChangeTop, Emit, CallHandler, CallClassHandler, GiveUp}
 use Rattle.core_tree.specs.Arithmetic.{bytes_equal}
-use Rattle.core_tree.specs.Places.{Out, Found, quiet, stop, stuck, next, held, put, is_owning_place, uses, is_gone, cannot_be_owned, unless, value_of, give_number, give_up, is_null}
+use Rattle.core_tree.specs.Places.{Out, Found, quiet, stop, stuck, next, held, is_owning_place, uses, is_gone, cannot_be_owned, unless, value_of, give_number, give_up}
 use Rattle.core_tree.specs.Calls.{tested, used, is_struct}
 use Rattle.core_tree.specs.Invoke.{call_delegate, call_slot, class_of, member_in}
 use Rattle.core_tree.specs.Storing.{same_reference, left_empty}
@@ -33,7 +33,7 @@ argument_items (kind ∷ kinds) (v ∷ vs) =
 abbrev pub open_emission : State.State → Value → ℕ → Option (List ℕ) → List Value → State.State
 open_emission s v signal detail vs =
     next (Emit (record { instance = length s.places; signal = signal; detail = detail; arguments = vs; limit = s.last_handler; last = 0 }) Before ∷ []) (
-      record s { places = s.places ++ record { owning = true; holds = v; within = None } ∷ [] }
+    record s { places = s.places ++ record { owning = true; holds = v; within = None } ∷ [] }
     )
 
 -- a signal is emitted: null, then a dead use, also where the instance is ending
@@ -75,13 +75,13 @@ taken_arguments false items = []
 abbrev pub run_handler : State.State → Emission → Phase → List Item → Handler → State.State
 run_handler s x phase arguments h =
     next (
-      sender_item h.takes_sender (held s x.instance) ++ taken_arguments h.takes_arguments arguments
-      ++ CallHandler (length s.places) s.frame.operands ∷ GiveUp (length s.places) ∷ Emit (record x { last = h.id }) phase ∷ []
+    sender_item h.takes_sender (held s x.instance) ++ taken_arguments h.takes_arguments arguments
+    ++ CallHandler (length s.places) s.frame.operands ∷ GiveUp (length s.places) ∷ Emit (record x { last = h.id }) phase ∷ []
     ) (
-      record s {
-        places = s.places ++ record { owning = true; holds = held s h.place; within = None } ∷ [];
-        frame = record s.frame { operands = [] };
-      }
+    record s {
+      places = s.places ++ record { owning = true; holds = held s h.place; within = None } ∷ [];
+      frame = record s.frame { operands = [] };
+    }
     )
 
 abbrev pub target_of : Value → Value
@@ -164,16 +164,22 @@ serial_of v = 0
 abbrev pub add_handler : State.State → ℕ → Option (List ℕ) → Bool → Bool → Bool → Value → Operand → Out
 add_handler s signal detail is_after takes_sender takes_arguments v o =
     quiet (give_number (
-      record (left_empty s o) {
-        places = (left_empty s o).places ++ handler_place s o ∷ [];
-        handlers =
+    record (left_empty s o) {
+      places = (left_empty s o).places ++ handler_place s o ∷ [];
+      handlers =
           s.handlers
           ++ record {
-            id = suc s.last_handler; object = serial_of v; signal = signal; detail = detail; is_after = is_after;
-            takes_sender = takes_sender; takes_arguments = takes_arguments; place = length s.places;
+            id = suc s.last_handler;
+            object = serial_of v;
+            signal = signal;
+            detail = detail;
+            is_after = is_after;
+            takes_sender = takes_sender;
+            takes_arguments = takes_arguments;
+            place = length s.places;
           } ∷ [];
-        last_handler = suc s.last_handler;
-      }
+      last_handler = suc s.last_handler;
+    }
     ) (pos (suc s.last_handler)))
 
 abbrev pub connect_to : State.State → ℕ → Option (List ℕ) → Bool → Bool → Bool → Callee → Value → Option Operand → Out

@@ -1,5 +1,5 @@
 -- The state of a run: what there is between two steps. There are no counts, state numbers, error pointers or function tables.
-use Rattle.std.specs.Prelude.{ℕ, ℤ, Bool, List, [], ◌∷◌, Option}
+use Rattle.std.specs.Prelude.{ℕ, ℤ, Bool, List, Option}
 use Rattle.vg_base.specs.declared.event.Span.{Span}
 use Rattle.vg_base.specs.declared.event.Entry.{Entry}
 use Rattle.vg_base.specs.declared.event.VEnd.{VEnd}
@@ -7,7 +7,6 @@ use Rattle.vala_types.specs.declared.types.Item.{Item as ElementType}
 use Rattle.vala_types.specs.declared.types.VType.{VType}
 use Rattle.vala_types.specs.declared.owners.Change.{Change}
 use Rattle.core_tree.specs.declared.lambda.Lambda.{Lambda}
-use Rattle.core_tree.specs.declared.lambda.CapturedParameter.{CapturedParameter}
 use Rattle.core_tree.specs.declared.operation.Operation.{Operation}
 use Rattle.core_tree.specs.declared.tree.CoreExpr.{CoreExpr}
 use Rattle.core_tree.specs.declared.tree.CoreStmt.{CoreStmt}

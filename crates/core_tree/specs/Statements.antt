@@ -1,12 +1,10 @@
 -- What a statement puts in front of the work.
-use Rattle.std.specs.Prelude.{ℕ, zero, suc, ◌+◌, ◌==◌, nat_lt, Bool, true, false, not, if◌then◌else◌, ℤ, pos, List, [], ◌∷◌, ◌++◌, length, map, reverse, flat_map, Option, Some, None, Result, Ok, Err, slice_get}
+use Rattle.std.specs.Prelude.{ℕ, suc, nat_lt, Bool, true, false, if◌then◌else◌, pos, List, [], ◌∷◌, ◌++◌, length, map, Option, Some, None, Result, Ok, Err}
 use Rattle.vg_base.specs.declared.event.Span.{Span}
 use Rattle.vg_base.specs.declared.event.VEnd.{VEnd}
 use Rattle.vg_base.specs.declared.event.VEnd.TheVariants.{Trapped, Dead}
 use Rattle.vg_base.specs.declared.event.TrapKind.TheVariants as trap
 use Rattle.vala_types.specs.declared.types.Item.{Item as ElementType}
-use Rattle.vala_types.specs.declared.types.Shape.TheVariants as shape
-use Rattle.vala_types.specs.declared.types.VType.{VType}
 use Rattle.vala_types.specs.declared.owners.Change.{Change}
 use Rattle.vala_types.specs.declared.owners.Change.TheVariants as change
 use Rattle.core_tree.specs.declared.core.Core.{Core}
@@ -23,10 +21,9 @@ use Rattle.core_tree.specs.declared.tree.CoreExpr.{CoreExpr, out-CoreExpr, CoreE
 use Rattle.core_tree.specs.declared.tree.CoreStmt.{CoreStmt, out-CoreStmt, CoreStmt-F}
 use Rattle.core_tree.specs.State
 use Rattle.core_tree.specs.State.{Value, Null, Number, Literal, Arguments, Thing, Delegate, Body, Place, Operand, Given, Owned, OwnedCells, At, ElementOf, VariableOf, Frame, Way, Break, Continue, Return, Throw, Item, Evaluate, Locate, Push, ReadTarget, ReadAway, ChangeTop, Perform, Reach, AndThen, OrElse, OneOf, IfNull, Branch, Repeat, Execute, Discard, Store, EndStatement, EndBlock, GiveUp, Turn, Steps, Each, BeginEach, EndSwitch, Choose, SetResult, Leave, ThrowGiven, Catches, Finally, Check, Content, ArrayOf, ScopeOf, ErrorOf}
-use Rattle.core_tree.specs.Arithmetic.{int_equal, bytes_equal, is_zero}
-use Rattle.core_tree.specs.Places.{Out, quiet, stop, stuck, next, cells_of, is_owning, empty_place, empty_places, range, held, put, owning_from, with_thing, next_serial, made, uses, reads, is_null, cannot_be_owned, content_of, unless, value_of, give, give_value, give_owned, Found, There, Fails, Nowhere, scope_from}
+use Rattle.core_tree.specs.Arithmetic.{int_equal}
+use Rattle.core_tree.specs.Places.{Out, quiet, stop, stuck, next, cells_of, empty_places, range, held, put, owning_from, with_thing, next_serial, made, uses, reads, is_null, cannot_be_owned, content_of, unless, value_of, give_value, give_owned, scope_from}
 use Rattle.core_tree.specs.Calls.{type_of_item, is_struct}
-use Rattle.core_tree.specs.Changes.{bytes_of}
 use Rattle.core_tree.specs.Invoke.{local_place, way_begins, find_this, with_found}
 use Rattle.core_tree.specs.Storing.{store_at, stands, is_false}
 use Rattle.core_tree.specs.Async.{park}
@@ -127,8 +124,8 @@ scope_content core s sc outer this = ScopeOf (length (empty_places core None sc.
 abbrev pub make_scope : Core → State.State → Scope → List BlockLocal → List Item → List CoreStmt → Option Value → Option Value → Out
 make_scope core s sc locals prologue body outer this = (
   next (capture core s (next_serial s) sc.parameters ++ block_work prologue body (locals_owned core s locals ++ local_place s sc.hold ∷ [])) (
-    put (with_thing s (scope_content core s sc outer this) (scope_places core (next_serial s) sc outer this)) (local_place s sc.hold) (Thing (next_serial s))
-  ),
+      put (with_thing s (scope_content core s sc outer this) (scope_places core (next_serial s) sc outer this)) (local_place s sc.hold) (Thing (next_serial s))
+      ),
   made (scope_content core s sc outer this),
 )
 

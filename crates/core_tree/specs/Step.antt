@@ -1,9 +1,9 @@
 -- One step: the first item of the work is done.
-use Rattle.std.specs.Prelude.{ℕ, zero, suc, ◌+◌, Bool, true, false, if◌then◌else◌, ℤ, pos, List, [], ◌∷◌, ◌++◌, length, map, reverse, max, Option, Some, None, slice_get}
+use Rattle.std.specs.Prelude.{ℕ, true, false, if◌then◌else◌, pos, List, [], ◌∷◌, ◌++◌, map, reverse, max, Option, Some, None, slice_get}
 use Rattle.vg_base.specs.declared.event.VEnd.{VEnd}
 use Rattle.vg_base.specs.declared.event.VEnd.TheVariants.{Ended}
 use Rattle.vg_base.specs.World.{World}
-use Rattle.vg_base.specs.Headline.{Said, Meaning, Observed, observed}
+use Rattle.vg_base.specs.Headline.{Meaning, Observed, observed}
 use Rattle.vala_types.specs.declared.types.VType.{VType}
 use Rattle.vala_types.specs.declared.types.Shape.TheVariants as shape
 use Rattle.core_tree.specs.declared.core.Core.{Core}
@@ -15,7 +15,7 @@ use Rattle.core_tree.specs.declared.types.CorePlace.{CorePlace}
 use Rattle.core_tree.specs.State
 use Rattle.core_tree.specs.State.{Value, Null, Number, Literal, Arguments, Place, Operand, Given, At, Frame, Item, Evaluate, Locate, Push, ReadTarget, ReadAway, ChangeTop, Perform, Reach, CopyCells, AndThen, OrElse, OneOf, IfNull, Branch, Repeat, Execute, Discard, Store, EndStatement, EndBlock, GiveUp, Clear, Turn, Steps, Each, BeginEach, EndSwitch, Choose, SetResult, Leave, ThrowGiven, Catches, Finally, EndCall, EndMaking, BeginMaking, CallBase, MakeObject, SetProperty, RunMethod, Notify, Emit, CallHandler, CallClassHandler, LoopTurn, EndFunction, EndCompletion, EndDispatch, BeginBody, EndBody, BackTo, ParkFor, Receive, End, Check, Start, EndMain}
 use Rattle.core_tree.specs.Owners.{live, most_owned}
-use Rattle.core_tree.specs.Places.{Out, quiet, stop, stuck, next, zero_of, empty_places, firsts, held, put, is_owning_place, release, give_up, value_of, give, is_null}
+use Rattle.core_tree.specs.Places.{Out, quiet, stop, stuck, next, zero_of, empty_places, firsts, put, is_owning_place, give_up, value_of, give, is_null}
 use Rattle.core_tree.specs.Calls.{return_to}
 use Rattle.core_tree.specs.Changes.{change, copy_cell}
 use Rattle.core_tree.specs.Invoke.{call_method}
@@ -159,11 +159,11 @@ abbrev pub next_of : Core → State.State → List Item → Out
 next_of core s [] = stuck s
 next_of core s (item ∷ rest) = do_item core (record s { work = rest }) item
 
--- The meaning: the step, the end, and the most owners of a thing and handlers connected.
+-- The meaning: the step, the end, and the most owners of a thing or the handlers that were connected, whichever is more.
 abbrev pub meaning : Core → Meaning State.State VEnd
 meaning core =
     record {
-      machine = record { next = λ s. next_of core s s.work; ended = λ s. s.ended; top = λ s. max (most_owned (live s)) (length s.handlers) };
+      machine = record { next = λ s. next_of core s s.work; ended = λ s. s.ended; top = λ s. max (most_owned (live s)) s.last_handler };
       live = live;
     }
 
@@ -187,8 +187,14 @@ initial_items (p ∷ ps) (n ∷ ns) = assigned p.initial ++ initial_items ps ns
 abbrev pub outermost : Frame
 outermost =
     record {
-      this = 0; target = Null; locals = []; operands = []; temporaries = []; result = 0;
-      result_type = record { shape = shape.Void; owned = false; nullable = false }; activation = None;
+      this = 0;
+      target = Null;
+      locals = [];
+      operands = [];
+      temporaries = [];
+      result = 0;
+      result_type = record { shape = shape.Void; owned = false; nullable = false };
+      activation = None;
     }
 
 -- the array that `main` is given holds the name of the program
@@ -206,8 +212,17 @@ opening core w =
       statics = places;
       frame = outermost;
       work = initial_items core.statics places ++ Start ∷ EndMain ∷ [];
-      parked = []; handlers = []; last_handler = 0; sources = []; last_source = 0; running = None; is_quitting = false;
-      clock = 0; entries = w.entries; input = w.input; ended = None;
+      parked = [];
+      handlers = [];
+      last_handler = 0;
+      sources = [];
+      last_source = 0;
+      running = None;
+      is_quitting = false;
+      clock = 0;
+      entries = w.entries;
+      input = w.input;
+      ended = None;
     }
 
 -- THE RUN of a core in a world.

@@ -1,7 +1,5 @@
 -- Reading places, storing into them, and the accessors of properties.
-use Rattle.std.specs.Prelude.{ℕ, zero, suc, ◌+◌, ◌==◌, Bool, true, false, not, if◌then◌else◌, List, [], ◌∷◌, ◌++◌, length, map, Option, Some, None, slice_get}
-use Rattle.vg_base.specs.declared.event.VEnd.TheVariants.{Trapped, Dead}
-use Rattle.vg_base.specs.declared.event.VEnd.{VEnd}
+use Rattle.std.specs.Prelude.{ℕ, suc, ◌==◌, Bool, true, false, if◌then◌else◌, List, [], ◌∷◌, length, map, Option, Some, None, slice_get}
 use Rattle.vala_types.specs.declared.types.Shape.{Shape}
 use Rattle.vala_types.specs.declared.types.Shape.TheVariants as shape
 use Rattle.vala_types.specs.declared.types.VType.{VType}
@@ -13,9 +11,9 @@ use Rattle.core_tree.specs.declared.types.Accessor.{Accessor}
 use Rattle.core_tree.specs.declared.types.Accessor.TheVariants as access
 use Rattle.core_tree.specs.declared.types.CoreProperty.{CoreProperty}
 use Rattle.core_tree.specs.State
-use Rattle.core_tree.specs.State.{Value, Null, Number, Literal, Thing, Message, Cells, Delegate, Place, Code, Method, Body, Resume, Operand, Given, Owned, OwnedCells, At, CellOf, ElementOf, PropertyOf, VariableOf, Item, Push, Store, ChangeTop, GiveUp, EndStatement, Notify, Content, TextOf, ErrorOf}
+use Rattle.core_tree.specs.State.{Value, Null, Number, Literal, Arguments, Thing, Message, Cells, Delegate, Place, Code, Method, Body, Resume, Operand, Given, Owned, OwnedCells, At, CellOf, ElementOf, PropertyOf, VariableOf, Item, Push, Store, ChangeTop, GiveUp, EndStatement, Notify, Content, TextOf, ErrorOf}
 use Rattle.core_tree.specs.Arithmetic.{int_equal, bytes_equal, is_zero}
-use Rattle.core_tree.specs.Places.{Out, quiet, stop, stuck, next, cells_of, is_owning, zero_of, add_places, give_owned, range, held, put, owning_from, is_owning_place, release, uses, reads, unless, value_of, give, Found, There, Fails, Nowhere, content_of}
+use Rattle.core_tree.specs.Places.{Out, quiet, stuck, next, cells_of, is_owning, zero_of, add_places, give_owned, range, held, put, owning_from, is_owning_place, release, reads, unless, value_of, give, Found}
 use Rattle.core_tree.specs.Calls.{find, tested, used, is_struct, give_cells}
 use Rattle.core_tree.specs.Changes.{bytes_of}
 use Rattle.core_tree.specs.Invoke.{with_found, call_method, class_of, member_in}
@@ -31,6 +29,7 @@ same_code _ _ = false
 abbrev pub same_target : Value → Value → Bool
 same_target Null Null = true
 same_target (Thing t) (Thing u) = t == u
+same_target (Arguments n c) (Arguments m d) = n == m
 same_target _ _ = false
 
 -- references are the same thing; delegates have the same code and target

@@ -1,5 +1,5 @@
 -- The functions of texts.
-use Rattle.std.specs.Prelude.{ℕ, zero, suc, ◌+◌, ◌-◌, ◌*◌, ◌^◌, ◌==◌, ◌&&◌, ◌||◌, nat_le, nat_lt, Bool, true, false, not, if◌then◌else◌, ℤ, pos, negsuc, neg_ℤ, ◌+ℤ◌, int_lt, int_le, List, [], ◌∷◌, ◌++◌, length, take, drop, Option, Some, None, codes, slice_index_or}
+use Rattle.std.specs.Prelude.{ℕ, suc, ◌+◌, ◌-◌, ◌*◌, ◌^◌, ◌==◌, ◌&&◌, ◌||◌, nat_le, Bool, true, false, if◌then◌else◌, ℤ, pos, negsuc, neg_ℤ, ◌+ℤ◌, List, [], ◌∷◌, ◌++◌, length, take, drop, Option, Some, None, codes, slice_index_or}
 use Rattle.std.specs.Option.{option_map}
 use Rattle.vg_base.specs.declared.event.TrapKind.{TrapKind}
 use Rattle.vg_base.specs.declared.event.TrapKind.TheVariants as trap

@@ -11,8 +11,14 @@ mod values;
 
 pub use core::Core;
 pub use decl::{Access, CoreDecl, DeclKind, Modifiers};
-pub use lambda::{BlockLocal, CapturedParameter, CoreParameter, Lambda, Locals, Mode, Scope, ScopeAt, Target, ThisAt, Via};
+pub use lambda::{
+    BlockLocal, CapturedParameter, CoreParameter, Lambda, Locals, Mode, Scope, ScopeAt, Target,
+    ThisAt, Via,
+};
 pub use operation::Operation;
 pub use tree::{CoreExpr, CoreStmt};
-pub use types::{Accessor, ClassInfo, CoreMethod, CorePlace, CoreProperty, CoreSignal, CoreType, Given, Making, Slot, StructInfo};
+pub use types::{
+    Accessor, ClassInfo, CoreMethod, CorePlace, CoreProperty, CoreSignal, CoreType, Given, Making,
+    Slot, StructInfo,
+};
 pub use values::{Arithmetic, Callee, Comparison, LoopCall, Part, TextCall};

@@ -39,7 +39,12 @@ pub enum CoreStmt {
     /// Puts the value of the initialiser into the place, which is a target, and gives up the other temporaries.
     Local(CoreExpr, CoreExpr, Span),
     /// Makes its scope, does the statements, gives up its locals (these) in reverse order, and its scope last.
-    Block { locals: Items<BlockLocal>, scope: Items<Scope>, body: Items<CoreStmt>, at: Span },
+    Block {
+        locals: Items<BlockLocal>,
+        scope: Items<Scope>,
+        body: Items<CoreStmt>,
+        at: Span,
+    },
     /// Evaluates, gives up the temporaries, and does one of the two.
     If(CoreExpr, Boxed<CoreStmt>, Boxed<CoreStmt>, Span),
     /// Does the body as long as the condition holds, which is tested before each turn.
@@ -50,7 +55,14 @@ pub enum CoreStmt {
     For(CoreExpr, Items<CoreStmt>, Boxed<CoreStmt>, Span),
     /// Evaluates the array once and reads its length once. Each turn reads an element and does the body, a block.
     /// The element goes into the target, by the change.
-    Foreach { array: CoreExpr, item: Item, variable: CoreExpr, change: Change, body: Boxed<CoreStmt>, at: Span },
+    Foreach {
+        array: CoreExpr,
+        item: Item,
+        variable: CoreExpr,
+        change: Change,
+        body: Boxed<CoreStmt>,
+        at: Span,
+    },
     /// Evaluates, compares with the labels in order, gives up the temporaries, and does from the chosen section on.
     Switch(CoreExpr, Items<CoreStmt>, Span),
     /// A section of a `switch`: its labels, whether it has the label `default`, and its block.
@@ -66,7 +78,12 @@ pub enum CoreStmt {
     /// Does the block; a thrown error goes to the first `catch` that takes it; then the last block, on every way out.
     Try(Boxed<CoreStmt>, Items<CoreStmt>, Items<CoreStmt>, Span),
     /// A `catch`: the domain, where it names one, and a block whose first place gets the error, which is a target.
-    Catch { domain: Option<u32>, variable: Items<CoreExpr>, body: Boxed<CoreStmt>, at: Span },
+    Catch {
+        domain: Option<u32>,
+        variable: Items<CoreExpr>,
+        body: Boxed<CoreStmt>,
+        at: Span,
+    },
     /// Parks the activation until its callback is called.
     Yield(Span),
     /// The trap `assert` where the condition does not hold.
