@@ -5,7 +5,7 @@ use Rattle.vg_base.specs.declared.event.ThingKind.TheVariants.{Object, Text, Sco
 use Rattle.vg_base.specs.declared.event.VEnd.TheVariants.{Ended, Dead}
 use Rattle.vala_types.specs.declared.types.Shape.TheVariants as shape
 use Rattle.vala_types.specs.declared.types.VType.{VType}
-use Rattle.core_tree.specs.declared.core.Core.{Core}
+use Rattle.core_tree.specs.declared.program.Core.{Core}
 use Rattle.core_tree.specs.declared.lambda.ScopeAt.{ScopeAt}
 use Rattle.core_tree.specs.declared.lambda.Target.TheVariants as bound
 use Rattle.core_tree.specs.declared.lambda.Via.TheVariants as via

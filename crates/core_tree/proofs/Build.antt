@@ -16,7 +16,7 @@ use Rattle.vala_types.specs.declared.types.Shape.TheVariants as shape
 use Rattle.vala_types.specs.declared.types.VType.{VType}
 use Rattle.vala_types.specs.declared.owners.Change.{Change}
 use Rattle.vala_types.specs.declared.owners.Change.TheVariants as change
-use Rattle.core_tree.specs.declared.core.Core.{Core}
+use Rattle.core_tree.specs.declared.program.Core.{Core}
 use Rattle.core_tree.specs.declared.lambda.BlockLocal.{BlockLocal}
 use Rattle.core_tree.specs.declared.lambda.CoreParameter.{CoreParameter}
 use Rattle.core_tree.specs.declared.lambda.Locals.{Locals}

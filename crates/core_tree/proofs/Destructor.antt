@@ -5,7 +5,7 @@ use Rattle.vg_base.specs.declared.event.Stream.TheVariants.{Out}
 use Rattle.vg_base.specs.declared.event.ThingKind.TheVariants.{Object}
 use Rattle.vg_base.specs.declared.event.VEnd.TheVariants.{Ended}
 use Rattle.vala_types.specs.declared.owners.Change.TheVariants.{Move, AddOwner, Keep}
-use Rattle.core_tree.specs.declared.core.Core.{Core}
+use Rattle.core_tree.specs.declared.program.Core.{Core}
 use Rattle.core_tree.proofs.Build
 
 -- class Foo : Object { ~Foo () { print ("gone\n"); } }

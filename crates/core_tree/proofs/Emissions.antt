@@ -4,7 +4,7 @@ use Rattle.vg_base.specs.declared.event.Event.TheVariants.{Made, Gone}
 use Rattle.vg_base.specs.declared.event.ThingKind.TheVariants.{Object}
 use Rattle.vg_base.specs.declared.event.VEnd.TheVariants.{Ended}
 use Rattle.vala_types.specs.declared.types.VType.{VType}
-use Rattle.core_tree.specs.declared.core.Core.{Core}
+use Rattle.core_tree.specs.declared.program.Core.{Core}
 use Rattle.core_tree.specs.declared.lambda.Target.TheVariants as bound
 use Rattle.core_tree.specs.declared.operation.Operation.TheVariants as op
 use Rattle.core_tree.specs.declared.tree.CoreExpr.{CoreExpr}

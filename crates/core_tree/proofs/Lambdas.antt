@@ -6,7 +6,7 @@ use Rattle.vg_base.specs.declared.event.VEnd.TheVariants.{Ended}
 use Rattle.vala_types.specs.declared.types.IntKind.TheVariants as kind
 use Rattle.vala_types.specs.declared.types.Shape.TheVariants as shape
 use Rattle.vala_types.specs.declared.types.VType.{VType}
-use Rattle.core_tree.specs.declared.core.Core.{Core}
+use Rattle.core_tree.specs.declared.program.Core.{Core}
 use Rattle.core_tree.specs.declared.lambda.Scope.{Scope as BlockScope}
 use Rattle.core_tree.specs.declared.lambda.ScopeAt.{ScopeAt}
 use Rattle.core_tree.specs.declared.lambda.Target.TheVariants as bound

@@ -10,3 +10,4 @@ pub mod Ways
 pub mod Scopes
 pub mod Objects
 pub mod Activations
+pub mod PlaceLaws

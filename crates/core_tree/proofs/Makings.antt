@@ -5,7 +5,7 @@ use Rattle.vg_base.specs.declared.event.ThingKind.TheVariants.{Object}
 use Rattle.vg_base.specs.declared.event.VEnd.TheVariants.{Ended}
 use Rattle.vala_types.specs.declared.types.Shape.TheVariants as shape
 use Rattle.vala_types.specs.declared.types.VType.{VType}
-use Rattle.core_tree.specs.declared.core.Core.{Core}
+use Rattle.core_tree.specs.declared.program.Core.{Core}
 use Rattle.core_tree.specs.declared.tree.CoreExpr.{CoreExpr}
 use Rattle.core_tree.specs.declared.tree.CoreStmt.TheVariants as st
 use Rattle.core_tree.specs.declared.types.Making.TheVariants as making

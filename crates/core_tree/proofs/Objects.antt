@@ -7,7 +7,7 @@ use Rattle.vala_types.specs.declared.types.IntKind.TheVariants as kind
 use Rattle.vala_types.specs.declared.types.Shape.TheVariants as shape
 use Rattle.vala_types.specs.declared.types.VType.{VType}
 use Rattle.vala_types.specs.declared.owners.Change.TheVariants as change
-use Rattle.core_tree.specs.declared.core.Core.{Core}
+use Rattle.core_tree.specs.declared.program.Core.{Core}
 use Rattle.core_tree.specs.declared.lambda.Target.TheVariants as bound
 use Rattle.core_tree.specs.declared.operation.Operation.TheVariants as op
 use Rattle.core_tree.specs.declared.tree.CoreExpr.{CoreExpr}

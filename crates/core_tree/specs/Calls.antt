@@ -10,7 +10,7 @@ use Rattle.vala_types.specs.declared.types.ItemShape.TheVariants as item
 use Rattle.vala_types.specs.declared.types.Shape.{Shape}
 use Rattle.vala_types.specs.declared.types.Shape.TheVariants as shape
 use Rattle.vala_types.specs.declared.types.VType.{VType}
-use Rattle.core_tree.specs.declared.core.Core.{Core}
+use Rattle.core_tree.specs.declared.program.Core.{Core}
 use Rattle.core_tree.specs.declared.lambda.CoreParameter.{CoreParameter}
 use Rattle.core_tree.specs.declared.lambda.Mode.{Mode}
 use Rattle.core_tree.specs.declared.lambda.Mode.TheVariants as mode

@@ -9,7 +9,7 @@ use Rattle.vala_types.specs.declared.types.Shape.TheVariants as shape
 use Rattle.vala_types.specs.declared.types.VType.{VType}
 use Rattle.vala_types.specs.declared.owners.Change.{Change}
 use Rattle.vala_types.specs.declared.owners.Change.TheVariants.{Keep, Move, CopyText, CopyArray, CopyStruct, CopyError, AddOwner, NotCopied}
-use Rattle.core_tree.specs.declared.core.Core.{Core}
+use Rattle.core_tree.specs.declared.program.Core.{Core}
 use Rattle.core_tree.specs.State
 use Rattle.core_tree.specs.State.{Value, Null, Number, Literal, Arguments, Thing, Message, Cells, Place, Operand, Given, Owned, OwnedCells, Item, CopyCells, ThingState, Content, TextOf, ArrayOf, ErrorOf}
 use Rattle.core_tree.specs.Owners.{thing_at}

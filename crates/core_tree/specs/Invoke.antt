@@ -2,7 +2,7 @@
 use Rattle.std.specs.Prelude.{ℕ, ◌==◌, if◌then◌else◌, pos, List, [], ◌∷◌, ◌++◌, map, find, Option, Some, None, slice_get, slice_index_or}
 use Rattle.vg_base.specs.declared.event.VEnd.TheVariants.{Trapped}
 use Rattle.vg_base.specs.declared.event.TrapKind.TheVariants as trap
-use Rattle.core_tree.specs.declared.core.Core.{Core}
+use Rattle.core_tree.specs.declared.program.Core.{Core}
 use Rattle.core_tree.specs.declared.lambda.Lambda.{Lambda}
 use Rattle.core_tree.specs.declared.lambda.Target.{Target}
 use Rattle.core_tree.specs.declared.lambda.Target.TheVariants as bound

@@ -1,6 +1,6 @@
 -- The ways out: an item is passed, or what it ends is done first. Errors are caught here.
 use Rattle.std.specs.Prelude.{ℕ, ◌==◌, Bool, true, false, if◌then◌else◌, List, [], ◌∷◌, ◌++◌, map, Option, Some, None}
-use Rattle.core_tree.specs.declared.core.Core.{Core}
+use Rattle.core_tree.specs.declared.program.Core.{Core}
 use Rattle.core_tree.specs.declared.tree.CoreExpr.{CoreExpr}
 use Rattle.core_tree.specs.declared.tree.CoreStmt.{CoreStmt, out-CoreStmt, CoreStmt-F}
 use Rattle.core_tree.specs.State

@@ -16,3 +16,4 @@ pub mod Operations
 pub mod Statements
 pub mod Leaving
 pub mod Step
+pub mod Laws

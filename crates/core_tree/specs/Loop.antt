@@ -5,7 +5,7 @@ use Rattle.vg_base.specs.declared.event.TrapKind.TheVariants as trap
 use Rattle.vg_base.specs.declared.event.Event.TheVariants.{Dispatch}
 use Rattle.vg_base.specs.Headline.{Said, Happens, Returns}
 use Rattle.vg_base.specs.Turn.{Due, Choice, Dispatched, Moved, NoSource, Turn, turn, later}
-use Rattle.core_tree.specs.declared.core.Core.{Core}
+use Rattle.core_tree.specs.declared.program.Core.{Core}
 use Rattle.core_tree.specs.declared.types.CoreMethod.{CoreMethod}
 use Rattle.core_tree.specs.declared.values.LoopCall.{LoopCall}
 use Rattle.core_tree.specs.declared.values.LoopCall.TheVariants as loop

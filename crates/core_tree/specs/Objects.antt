@@ -4,7 +4,7 @@ use Rattle.vg_base.specs.declared.event.Event.TheVariants.{Gone as Went}
 use Rattle.vg_base.specs.Headline.{Happens}
 use Rattle.vala_types.specs.declared.types.Shape.TheVariants as shape
 use Rattle.vala_types.specs.declared.types.VType.{VType}
-use Rattle.core_tree.specs.declared.core.Core.{Core}
+use Rattle.core_tree.specs.declared.program.Core.{Core}
 use Rattle.core_tree.specs.declared.tree.CoreExpr.{CoreExpr}
 use Rattle.core_tree.specs.declared.types.ClassInfo.{ClassInfo}
 use Rattle.core_tree.specs.declared.types.CoreMethod.{CoreMethod}

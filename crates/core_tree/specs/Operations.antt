@@ -12,7 +12,7 @@ use Rattle.vala_types.specs.declared.types.IntKind.{IntKind}
 use Rattle.vala_types.specs.declared.types.Item.{Item as ElementType}
 use Rattle.vala_types.specs.declared.types.Shape.TheVariants as shape
 use Rattle.vala_types.specs.declared.types.VType.{VType}
-use Rattle.core_tree.specs.declared.core.Core.{Core}
+use Rattle.core_tree.specs.declared.program.Core.{Core}
 use Rattle.core_tree.specs.declared.operation.Operation.{Operation}
 use Rattle.core_tree.specs.declared.operation.Operation.TheVariants as op
 use Rattle.core_tree.specs.declared.types.ClassInfo.{ClassInfo}

@@ -10,7 +10,7 @@ use Rattle.vala_types.specs.declared.types.Shape.{Shape}
 use Rattle.vala_types.specs.declared.types.Shape.TheVariants as shape
 use Rattle.vala_types.specs.declared.types.VType.{VType}
 use Rattle.vala_types.specs.Changes.{is_plain}
-use Rattle.core_tree.specs.declared.core.Core.{Core}
+use Rattle.core_tree.specs.declared.program.Core.{Core}
 use Rattle.core_tree.specs.declared.types.CoreType.{CoreType}
 use Rattle.core_tree.specs.declared.types.CoreType.TheVariants as declared
 use Rattle.core_tree.specs.State

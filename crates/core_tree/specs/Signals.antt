@@ -3,7 +3,7 @@ use Rattle.std.specs.Prelude.{ℕ, suc, ◌==◌, ◌&&◌, nat_le, nat_lt, Bool
 use Rattle.vg_base.specs.declared.event.VEnd.TheVariants.{Dead}
 use Rattle.vala_types.specs.declared.types.VType.{VType}
 use Rattle.vala_types.specs.declared.owners.Change.TheVariants.{CopyStruct}
-use Rattle.core_tree.specs.declared.core.Core.{Core}
+use Rattle.core_tree.specs.declared.program.Core.{Core}
 use Rattle.core_tree.specs.declared.types.CoreSignal.{CoreSignal}
 use Rattle.core_tree.specs.declared.types.CoreProperty.{CoreProperty}
 use Rattle.core_tree.specs.declared.values.Callee.{Callee}

@@ -7,7 +7,7 @@ use Rattle.vg_base.specs.declared.event.TrapKind.TheVariants as trap
 use Rattle.vala_types.specs.declared.types.Item.{Item as ElementType}
 use Rattle.vala_types.specs.declared.owners.Change.{Change}
 use Rattle.vala_types.specs.declared.owners.Change.TheVariants as change
-use Rattle.core_tree.specs.declared.core.Core.{Core}
+use Rattle.core_tree.specs.declared.program.Core.{Core}
 use Rattle.core_tree.specs.declared.lambda.BlockLocal.{BlockLocal}
 use Rattle.core_tree.specs.declared.lambda.CapturedParameter.{CapturedParameter}
 use Rattle.core_tree.specs.declared.lambda.Scope.{Scope}

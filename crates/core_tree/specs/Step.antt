@@ -6,7 +6,7 @@ use Rattle.vg_base.specs.World.{World}
 use Rattle.vg_base.specs.Headline.{Meaning, Observed, observed}
 use Rattle.vala_types.specs.declared.types.VType.{VType}
 use Rattle.vala_types.specs.declared.types.Shape.TheVariants as shape
-use Rattle.core_tree.specs.declared.core.Core.{Core}
+use Rattle.core_tree.specs.declared.program.Core.{Core}
 use Rattle.core_tree.specs.declared.lambda.CoreParameter.{CoreParameter}
 use Rattle.core_tree.specs.declared.tree.CoreExpr.{CoreExpr, out-CoreExpr}
 use Rattle.core_tree.specs.declared.tree.CoreStmt.{CoreStmt, out-CoreStmt}

@@ -6,7 +6,7 @@ use Rattle.vala_types.specs.declared.types.VType.{VType}
 use Rattle.vala_types.specs.declared.owners.Change.{Change}
 use Rattle.vala_types.specs.declared.owners.Change.TheVariants as change
 use Rattle.vala_types.specs.Rows.{into_owner}
-use Rattle.core_tree.specs.declared.core.Core.{Core}
+use Rattle.core_tree.specs.declared.program.Core.{Core}
 use Rattle.core_tree.specs.declared.types.Accessor.{Accessor}
 use Rattle.core_tree.specs.declared.types.Accessor.TheVariants as access
 use Rattle.core_tree.specs.declared.types.CoreProperty.{CoreProperty}
