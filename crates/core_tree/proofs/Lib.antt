@@ -11,3 +11,4 @@ pub mod Scopes
 pub mod Objects
 pub mod Activations
 pub mod PlaceLaws
+pub mod Shop
