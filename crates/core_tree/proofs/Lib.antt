@@ -12,3 +12,4 @@ pub mod Objects
 pub mod Activations
 pub mod PlaceLaws
 pub mod Shop
+pub mod Passing
