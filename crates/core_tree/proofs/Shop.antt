@@ -1,13 +1,6 @@
 -- A usual program: an interface, two classes, a signal, a property that notifies, an async method that fails, a main loop.
-use Rattle.std.specs.Prelude.{◌≡◌, refl, ℕ, zero, suc, Bool, true, false, List, [], ◌∷◌, ◌++◌, Option, Some, None, codes, ℤ, pos}
-use Rattle.vg_base.specs.declared.event.Entry.TheVariants.{Pick, Wait}
-use Rattle.vg_base.specs.declared.event.Event.TheVariants.{Print, Made, Gone, Dispatch}
-use Rattle.vg_base.specs.declared.event.LiveRow.{LiveRow}
-use Rattle.vg_base.specs.declared.event.Stream.TheVariants.{Out}
-use Rattle.vg_base.specs.declared.event.ThingKind.TheVariants.{Object, Text, Array, Scope, Error, Activation}
-use Rattle.vg_base.specs.declared.event.TrapKind.TheVariants as trap
-use Rattle.vg_base.specs.declared.event.VEnd.TheVariants.{Ended, Dead, Trapped, Waiting}
-use Rattle.vg_base.specs.World.{World}
+use Rattle.std.specs.Prelude.{refl, ℕ, Bool, true, false, List, [], ◌∷◌, ◌++◌, Some, None, codes, pos}
+use Rattle.vg_base.specs.declared.event.VEnd.TheVariants.{Ended}
 use Rattle.vala_types.specs.declared.types.IntKind.TheVariants as kind
 use Rattle.vala_types.specs.declared.types.Item.{Item}
 use Rattle.vala_types.specs.declared.types.ItemShape.TheVariants as item
@@ -15,11 +8,8 @@ use Rattle.vala_types.specs.declared.types.Shape.TheVariants as shape
 use Rattle.vala_types.specs.declared.types.VType.{VType}
 use Rattle.vala_types.specs.declared.owners.Change.TheVariants as change
 use Rattle.core_tree.specs.declared.program.Core.{Core}
-use Rattle.core_tree.specs.declared.lambda.Lambda.{Lambda}
-use Rattle.core_tree.specs.declared.lambda.Scope.{Scope as BlockScope}
 use Rattle.core_tree.specs.declared.lambda.ScopeAt.{ScopeAt}
 use Rattle.core_tree.specs.declared.lambda.Target.TheVariants as bound
-use Rattle.core_tree.specs.declared.lambda.ThisAt.TheVariants as from
 use Rattle.core_tree.specs.declared.lambda.Via.TheVariants as via
 use Rattle.core_tree.specs.declared.operation.Operation.TheVariants as op
 use Rattle.core_tree.specs.declared.tree.CoreExpr.{CoreExpr}
@@ -34,8 +24,7 @@ use Rattle.core_tree.specs.declared.values.Comparison.TheVariants as compare
 use Rattle.core_tree.specs.declared.values.LoopCall.TheVariants as loop
 use Rattle.core_tree.specs.declared.values.Part.TheVariants as part
 use Rattle.core_tree.specs.declared.values.TextCall.TheVariants as call_of
-use Rattle.core_tree.proofs.Build.{Row, Printed, here, owned, unowned, void, int, text, object, apply, number, literal, null, local, static, this, field, changed, place, assign, set, run, say, of, block, frame, by_value, method, creation, plain_creation, object_class, class, static_field, program, with_properties, with_signals, notify, quiet_world, scripted, new, call, call_on, line, text_param, keep, moved, copied, told, told_type, told_methods, new_told, told_name, by_text, lambda_at, act, error_type}
-
+use Rattle.core_tree.proofs.Build.{Printed, here, owned, unowned, void, int, text, object, apply, number, literal, local, this, field, changed, place, assign, set, run, say, of, block, frame, by_value, method, creation, plain_creation, object_class, class, program, with_properties, with_signals, notify, quiet_world, new, call_on, text_param, keep, moved, copied, by_text, act, error_type}
 use Rattle.core_tree.specs.declared.types.CoreMethod.{CoreMethod}
 use Rattle.core_tree.specs.declared.types.CoreProperty.{CoreProperty}
 use Rattle.core_tree.specs.declared.types.CoreType.{CoreType}
@@ -103,15 +92,29 @@ main_loop = object 0
 abbrev type_2 : CoreType
 type_2 =
     declared.Class (record {
-      base = Some 0; is_a = 2 ∷ 0 ∷ 1 ∷ []; cells = text ∷ int ∷ int ∷ []; own = 0; initials = set (field this 1 int) (keep int (number 1)) ∷ [];
-      construct_properties = 0 ∷ []; construct_blocks = []; destructor = Some 3; slots = record { slot = 0; member = 2 } ∷ [];
+      base = Some 0;
+      is_a = 2 ∷ 0 ∷ 1 ∷ [];
+      cells = text ∷ int ∷ int ∷ [];
+      own = 0;
+      initials = set (field this 1 int) (keep int (number 1)) ∷ [];
+      construct_properties = 0 ∷ [];
+      construct_blocks = [];
+      destructor = Some 3;
+      slots = record { slot = 0; member = 2 } ∷ [];
     })
 
 abbrev type_3 : CoreType
 type_3 =
     declared.Class (record {
-      base = Some 2; is_a = 3 ∷ 2 ∷ 0 ∷ 1 ∷ []; cells = text ∷ int ∷ int ∷ []; own = 3; initials = [];
-      construct_properties = []; construct_blocks = []; destructor = None; slots = record { slot = 0; member = 5 } ∷ [];
+      base = Some 2;
+      is_a = 3 ∷ 2 ∷ 0 ∷ 1 ∷ [];
+      cells = text ∷ int ∷ int ∷ [];
+      own = 3;
+      initials = [];
+      construct_properties = [];
+      construct_blocks = [];
+      destructor = None;
+      slots = record { slot = 0; member = 5 } ∷ [];
     })
 
 abbrev type_4 : CoreType
@@ -136,12 +139,12 @@ lent_text = unowned shape.Text
 abbrev new_item : CoreMethod
 new_item =
     creation (frame (text_param ∷ by_value int ∷ []) [] void) (making.Object (record { property = 0; value = keep lent_text (local 0 lent_text) } ∷ []))
-      (block [] (assign int (field this 2 int) (keep int (local 1 int)) ∷ []))
+    (block [] (assign int (field this 2 int) (keep int (local 1 int)) ∷ []))
 
 abbrev item_price : CoreMethod
 item_price = method (frame [] [] int) (block [] (
-  st.Return (keep int (calculate arithmetic.Multiply (field this 2 int) (apply (op.Property 1) (this ∷ []))) ∷ []) here ∷ []
-))
+    st.Return (keep int (calculate arithmetic.Multiply (field this 2 int) (apply (op.Property 1) (this ∷ []))) ∷ []) here ∷ []
+    ))
 
 abbrev drop_item : CoreMethod
 drop_item = method (frame [] [] void) (block [] (say (codes "drop %s") (name_of this ∷ []) ∷ []))
@@ -154,20 +157,20 @@ sale_price = method (frame [] [] int) (block [] (st.Return (keep int (calculate 
 
 abbrev add_item : CoreMethod
 add_item = method (frame (by_value lent ∷ []) [] void) (block [] (
-  run (apply (op.Append elements false) (place (field this 0 products) ∷ changed change.AddOwner product (local 0 lent) ∷ []))
-  ∷ run (apply (op.Emit 1) (this ∷ keep lent (local 0 lent) ∷ []))
-  ∷ []
-))
+    run (apply (op.Append elements false) (place (field this 0 products) ∷ changed change.AddOwner product (local 0 lent) ∷ []))
+    ∷ run (apply (op.Emit 1) (this ∷ keep lent (local 0 lent) ∷ []))
+    ∷ []
+    ))
 
 abbrev total : CoreMethod
 total = method (frame [] (int ∷ lent ∷ []) int) (block (of 0 int ∷ []) (
-  set (local 0 int) (keep int (number 0))
-  ∷ st.Foreach (field this 0 products) elements (local 1 lent) change.Keep (block (of 1 lent ∷ []) (
+    set (local 0 int) (keep int (number 0))
+    ∷ st.Foreach (field this 0 products) elements (local 1 lent) change.Keep (block (of 1 lent ∷ []) (
     run (apply (op.AssignNumber arithmetic.Add kind.Int32 kind.Int32 false) (e.PlaceAndValue (local 0 int) here ∷ price_of (local 1 lent) ∷ [])) ∷ []
-  )) here
-  ∷ st.Return (keep int (local 0 int) ∷ []) here
-  ∷ []
-))
+    )) here
+    ∷ st.Return (keep int (local 0 int) ∷ []) here
+    ∷ []
+    ))
 
 abbrev at : CoreExpr
 at = local 3 int
@@ -183,23 +186,23 @@ minus_one = apply (op.Number true 1) []
 
 abbrev load : CoreMethod
 load = record (method (frame (by_value texts_type ∷ []) (int ∷ text ∷ int ∷ text ∷ []) int) (block (of 1 int ∷ []) (
-  set (local 1 int) (keep int (number 0))
-  ∷ st.Foreach (local 0 texts_type) texts (local 2 text) change.CopyText (block (of 2 text ∷ of 3 int ∷ of 4 text ∷ []) (
+    set (local 1 int) (keep int (number 0))
+    ∷ st.Foreach (local 0 texts_type) texts (local 2 text) change.CopyText (block (of 2 text ∷ of 3 int ∷ of 4 text ∷ []) (
     run (apply (op.Loop loop.TimeoutAdd) (number 10 ∷ apply op.Callback [] ∷ []))
     ∷ st.Yield here
     ∷ set at (keep int (apply (op.TextFunction call_of.IndexOf) (line_text ∷ literal (codes ":") ∷ number 0 ∷ [])))
     ∷ st.If (apply (op.CompareNumbers compare.Less) (at ∷ number 0 ∷ []))
-      (st.Throw (moved error_type (apply (op.NewError 8 (pos 1) (codes "line %d")) (calculate arithmetic.Add (local 1 int) (number 1) ∷ []))) here) (st.Empty here) here
+    (st.Throw (moved error_type (apply (op.NewError 8 (pos 1) (codes "line %d")) (calculate arithmetic.Add (local 1 int) (number 1) ∷ []))) here) (st.Empty here) here
     ∷ set (local 4 text) (moved text (cut_from (number 0) at))
     ∷ run (call_on this 7 (keep lent (new 2 1 (
-      keep lent_text (local 4 text) ∷ keep int (apply (op.TextFunction call_of.ParseInt) (cut_from (calculate arithmetic.Add at (number 1)) minus_one ∷ [])) ∷ []
+    keep lent_text (local 4 text) ∷ keep int (apply (op.TextFunction call_of.ParseInt) (cut_from (calculate arithmetic.Add at (number 1)) minus_one ∷ [])) ∷ []
     )) ∷ []))
     ∷ run (apply (op.Increment arithmetic.Add kind.Int32 true false) (e.PlaceAndValue (local 1 int) here ∷ []))
     ∷ []
-  )) here
-  ∷ st.Return (keep int (local 1 int) ∷ []) here
-  ∷ []
-))) { is_async = true }
+    )) here
+    ∷ st.Return (keep int (local 1 int) ∷ []) here
+    ∷ []
+    ))) { is_async = true }
 
 -- int main () {
 --   MainLoop loop = new MainLoop ();
@@ -235,15 +238,17 @@ with_two a b n body =
 abbrev when_loaded : CoreExpr
 when_loaded =
     moved act (e.Lambda (record {
-      locals = frame (by_value (unowned (shape.Class 0)) ∷ by_value (unowned shape.AsyncResult) ∷ []) (error_type ∷ []) void; target = bound.Captures inner; is_owning = true;
+      locals = frame (by_value (unowned (shape.Class 0)) ∷ by_value (unowned shape.AsyncResult) ∷ []) (error_type ∷ []) void;
+      target = bound.Captures inner;
+      is_owning = true;
     }) (block [] (
-      st.Try (block [] (say (codes "loaded %d") (apply (op.End 9 true) (var outer 1 cart_type ∷ local 1 (unowned shape.AsyncResult) ∷ []) ∷ []) ∷ []))
-        (st.Catch (Some 8) (local 2 error_type ∷ []) (block (of 2 error_type ∷ []) (
-          say (codes "failed: %s") (apply (op.Part part.ErrorMessage) (local 2 error_type ∷ []) ∷ []) ∷ []
-        )) here ∷ []) [] here
-      ∷ say (codes "total %d") (call_on (var outer 1 cart_type) 8 [] ∷ [])
-      ∷ run (apply (op.Loop loop.Quit) (var outer 0 main_loop ∷ []))
-      ∷ []
+    st.Try (block [] (say (codes "loaded %d") (apply (op.End 9 true) (var outer 1 cart_type ∷ local 1 (unowned shape.AsyncResult) ∷ []) ∷ []) ∷ []))
+    (st.Catch (Some 8) (local 2 error_type ∷ []) (block (of 2 error_type ∷ []) (
+    say (codes "failed: %s") (apply (op.Part part.ErrorMessage) (local 2 error_type ∷ []) ∷ []) ∷ []
+    )) here ∷ []) [] here
+    ∷ say (codes "total %d") (call_on (var outer 1 cart_type) 8 [] ∷ [])
+    ∷ run (apply (op.Loop loop.Quit) (var outer 0 main_loop ∷ []))
+    ∷ []
     )) here)
 
 abbrev copies : List (List ℕ) → List CoreExpr
@@ -252,16 +257,16 @@ copies (b ∷ bs) = copied (literal b) ∷ copies bs
 
 abbrev main : CoreMethod
 main = method (frame [] (object 0 ∷ product ∷ texts_type ∷ []) int) (
-  st.Block (of 1 product ∷ of 2 texts_type ∷ []) (record { hold = 0; variables = main_loop ∷ cart_type ∷ []; outer = None; this = None; parameters = [] } ∷ []) (
+    st.Block (of 1 product ∷ of 2 texts_type ∷ []) (record { hold = 0; variables = main_loop ∷ cart_type ∷ []; outer = None; this = None; parameters = [] } ∷ []) (
     set (var inner 0 main_loop) (moved main_loop (apply (op.Loop loop.New) []))
     ∷ set (var inner 1 cart_type) (moved cart_type (new 4 6 []))
     ∷ run (apply (op.Connect 1 None false true true callee.Delegate) (var inner 1 cart_type
-      ∷ with_two (unowned (shape.Class 4)) lent 1 (block [] (say (codes "added %s at %d") (name_of (local 1 lent) ∷ price_of (local 1 lent) ∷ []) ∷ [])) ∷ []))
+    ∷ with_two (unowned (shape.Class 4)) lent 1 (block [] (say (codes "added %s at %d") (name_of (local 1 lent) ∷ price_of (local 1 lent) ∷ []) ∷ [])) ∷ []))
     ∷ set (local 1 product) (moved product (new 3 4 (by_text (codes "pen") ∷ keep int (number 8) ∷ [])))
     ∷ run (apply (op.Connect 0 (Some (codes "count")) false true true callee.Delegate) (local 1 product
-      ∷ with_two (unowned (shape.Class 0)) (unowned shape.ParamSpec) 2 (block [] (
-        say (codes "%s changed") (apply (op.Part part.PropertyName) (local 1 (unowned shape.ParamSpec) ∷ []) ∷ []) ∷ []
-      )) ∷ []))
+    ∷ with_two (unowned (shape.Class 0)) (unowned shape.ParamSpec) 2 (block [] (
+    say (codes "%s changed") (apply (op.Part part.PropertyName) (local 1 (unowned shape.ParamSpec) ∷ []) ∷ []) ∷ []
+    )) ∷ []))
     ∷ run (call_on (var inner 1 cart_type) 7 (keep lent (local 1 product) ∷ []))
     ∷ assign int (apply (op.Property 1) (local 1 product ∷ [])) (keep int (number 3))
     ∷ set (local 2 texts_type) (moved texts_type (apply (op.List texts) (copies (codes "ink:5" ∷ codes "pad:2" ∷ codes "cap" ∷ []))))
@@ -269,14 +274,14 @@ main = method (frame [] (object 0 ∷ product ∷ texts_type ∷ []) int) (
     ∷ run (apply (op.Loop loop.Run) (var inner 0 main_loop ∷ []))
     ∷ st.Return (keep int (number 0) ∷ []) here
     ∷ []
-  ) here
-)
+    ) here
+    )
 
 abbrev shop : Core
 shop =
     with_signals (with_properties (
-      program (object_class ∷ declared.Other ∷ type_2 ∷ type_3 ∷ type_4 ∷ [])
-        (main ∷ new_item ∷ item_price ∷ drop_item ∷ new_sale ∷ sale_price ∷ plain_creation ∷ add_item ∷ total ∷ load ∷ []) []
+    program (object_class ∷ declared.Other ∷ type_2 ∷ type_3 ∷ type_4 ∷ [])
+    (main ∷ new_item ∷ item_price ∷ drop_item ∷ new_sale ∷ sale_price ∷ plain_creation ∷ add_item ∷ total ∷ load ∷ []) []
     ) (automatic (codes "name") text 0 true ∷ automatic (codes "count") int 1 false ∷ [])) (notify ∷ record { parameters = lent ∷ []; class_handler = None } ∷ [])
 
 abbrev lines : List (List ℕ) → List ℕ
@@ -284,8 +289,8 @@ lines [] = []
 lines (l ∷ ls) = l ++ 10 ∷ lines ls
 
 pub shop_row : Printed shop quiet_world 3000 (lines (
-  codes "added pen at 4" ∷ codes "count changed" ∷ codes "added ink at 5" ∷ codes "added pad at 2" ∷ codes "failed: line 3" ∷ codes "total 19"
-  ∷ codes "drop pen" ∷ codes "drop ink" ∷ codes "drop pad" ∷ []
-)) (Ended (pos 0)) []
+    codes "added pen at 4" ∷ codes "count changed" ∷ codes "added ink at 5" ∷ codes "added pad at 2" ∷ codes "failed: line 3" ∷ codes "total 19"
+    ∷ codes "drop pen" ∷ codes "drop ink" ∷ codes "drop pad" ∷ []
+    )) (Ended (pos 0)) []
 unfolding Rattle.core_tree.specs.declared.tree.CoreExpr.TheViews.out-CoreStmt denote.Hole.Carrier.out Rattle.core_tree.specs.declared.tree.CoreExpr.TheBlock.shown-the_row-CoreStmt-3 denote.Hole.Carrier.shown denote.Hole.Carrier.hidden Rattle.core_tree.specs.declared.tree.CoreExpr.TheViews.out-CoreExpr Rattle.std.specs.Fmt.digits
 shop_row = record { says = refl; ends = refl; lives = refl }

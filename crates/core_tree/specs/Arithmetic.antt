@@ -23,6 +23,7 @@ width Ulong = 64
 width Int64 = 64
 width Uint64 = 64
 
+-- types with a sign
 abbrev pub is_signed : IntKind → Bool
 is_signed Int8 = true
 is_signed Char = true
@@ -49,14 +50,17 @@ wrap kind z = if is_signed kind then signed (width kind) (modulo z (2 ^ width ki
 abbrev pub bits_of : IntKind → ℤ → ℕ
 bits_of kind z = modulo z (2 ^ width kind)
 
+-- the least number of a signed type
 abbrev pub is_least : IntKind → ℤ → Bool
 is_least kind (pos a) = false
 is_least kind (negsuc a) = is_signed kind && suc a == 2 ^ (width kind - 1)
 
+-- the number -1
 abbrev pub is_minus_one : ℤ → Bool
 is_minus_one (negsuc zero) = true
 is_minus_one _ = false
 
+-- the number 0
 abbrev pub is_zero : ℤ → Bool
 is_zero (pos zero) = true
 is_zero _ = false
@@ -65,6 +69,7 @@ is_zero _ = false
 abbrev pub cannot_divide : IntKind → ℤ → ℤ → Bool
 cannot_divide kind a b = is_zero b || (is_least kind a && is_minus_one b)
 
+-- what cannot be divided is the trap `division`
 abbrev pub divided : Bool → ℤ → Result ℤ TrapKind
 divided true z = Err trap.Division
 divided false z = Ok z
@@ -103,9 +108,11 @@ compared compare.LessOrEqual less equal = less || equal
 compared compare.Greater less equal = not (less || equal)
 compared compare.GreaterOrEqual less equal = not less
 
+-- two whole numbers are equal
 abbrev pub int_equal : ℤ → ℤ → Bool
 int_equal a b = int_le a b && int_le b a
 
+-- two whole numbers compare
 abbrev pub compare_numbers : Comparison → ℤ → ℤ → Bool
 compare_numbers c a b = compared c (int_lt a b) (int_equal a b)
 
@@ -116,6 +123,7 @@ bytes_less [] (b ∷ bs) = true
 bytes_less (a ∷ as') [] = false
 bytes_less (a ∷ as') (b ∷ bs) = nat_lt a b || (a == b && bytes_less as' bs)
 
+-- two lists of bytes are the same
 abbrev pub bytes_equal : List ℕ → List ℕ → Bool
 bytes_equal [] [] = true
 bytes_equal (a ∷ as') (b ∷ bs) = a == b && bytes_equal as' bs

@@ -17,19 +17,24 @@ use Rattle.core_tree.specs.Storing.{take_at}
 
 -- The places of an activation: `this`, the arguments, the callback, the result, and the error that stands for it.
 
+-- the type of the place for `this`: it owns an object
 abbrev pub this_type : VType
 this_type = record { shape = shape.Class 0; owned = true; nullable = true }
 
+-- the type of the place for the callback: it owns a delegate
 abbrev pub callback_type : VType
 callback_type = record { shape = shape.Delegate 0; owned = true; nullable = true }
 
+-- the type of the place for an error: it owns one of any domain
 abbrev pub error_type : VType
 error_type = record { shape = shape.Error None; owned = true; nullable = true }
 
+-- the types of parameters
 abbrev pub parameter_types : List CoreParameter → List VType
 parameter_types [] = []
 parameter_types (p ∷ ps) = p.kind ∷ parameter_types ps
 
+-- the types of all places of an activation, in the order in which they are emptied
 abbrev pub activation_types : CoreMethod → List VType
 activation_types m = this_type ∷ parameter_types m.locals.parameters ++ callback_type ∷ m.locals.result ∷ error_type ∷ []
 
@@ -37,20 +42,25 @@ activation_types m = this_type ∷ parameter_types m.locals.parameters ++ callba
 abbrev pub parameters_at : Core → ℕ → CoreMethod → List ℕ
 parameters_at core first m = firsts core (suc first) (parameter_types m.locals.parameters)
 
+-- how many cells values of these types take
 abbrev pub cell_count : Core → List VType → ℕ
 cell_count core kinds = length (flat_map (cells_of core) kinds)
 
+-- where the callback stands
 abbrev pub callback_at : Core → ℕ → CoreMethod → ℕ
 callback_at core first m = suc first + cell_count core (parameter_types m.locals.parameters)
 
+-- where the result stands, behind the callback
 abbrev pub result_at : Core → ℕ → CoreMethod → ℕ
 result_at core first m = suc (callback_at core first m)
 
+-- where the error stands, behind the result
 abbrev pub error_at : Core → ℕ → CoreMethod → ℕ
 error_at core first m = result_at core first m + length (cells_of core m.locals.result)
 
 -- Beginning
 
+-- a value that is a delegate
 abbrev pub is_delegate : Value → Bool
 is_delegate (Delegate code target) = true
 is_delegate v = false
@@ -61,9 +71,11 @@ copy_of s kind (Owned n) = []
 copy_of s kind (OwnedCells first count) = []
 copy_of s kind o = if is_delegate (value_of s o) then [] else ChangeTop (into_owner kind.shape false) kind ∷ []
 
+-- an operand goes into an owning place
 abbrev pub put_into : State.State → ℕ → VType → Operand → List Item
 put_into s n kind o = Push (At n) ∷ Push o ∷ copy_of s kind o ++ Store ∷ []
 
+-- each argument goes into the place of its parameter
 abbrev pub put_arguments : Core → State.State → List ℕ → List CoreParameter → List Operand → List Item
 put_arguments core s [] ps os = []
 put_arguments core s (n ∷ ns) [] os = []
@@ -76,6 +88,7 @@ behind zero os = os
 behind (suc n) [] = []
 behind (suc n) (o ∷ os) = behind n os
 
+-- the callback, where one is given, goes into its place
 abbrev pub put_callback : State.State → ℕ → List Operand → List Item
 put_callback s n [] = []
 put_callback s n (o ∷ os) = put_into s n callback_type o
@@ -95,6 +108,7 @@ make_activation core s number m this os waiter after = (
   made (ActivationOf number (length s.places) waiter),
 )
 
+-- the same of a method that was looked up; a receiver is tested first
 abbrev pub begin_by : Core → State.State → ℕ → Option CoreMethod → Bool → List Operand → Option ℕ → List Item → Out
 begin_by core s number None has_receiver os waiter after = stuck s
 begin_by core s number (Some m) false os waiter after = make_activation core s number m Null os waiter after
@@ -125,11 +139,13 @@ body_frame core s t first m =
       activation = Some t;
     }
 
+-- the same, where the method is there
 abbrev pub begin_body_in : Core → State.State → ℕ → ℕ → Option CoreMethod → Out
 begin_body_in core s t first None = stuck s
 begin_body_in core s t first (Some m) =
     quiet (next (map Execute m.body ++ EndBody ∷ BackTo s.frame ∷ []) (record (add_places s (empty_places core None m.locals.others)) { frame = body_frame core s t first m }))
 
+-- the same, where the activation is there
 abbrev pub begin_body_of : Core → State.State → ℕ → Option ThingState → Out
 begin_body_of core s t None = stuck s
 begin_body_of core s t (Some x) = of_method x.content
@@ -150,6 +166,7 @@ own_work [] = []
 own_work (EndBody ∷ w) = EndBody ∷ []
 own_work (i ∷ w) = i ∷ own_work w
 
+-- what is left behind the end of the activation's body
 abbrev pub others_work : List Item → List Item
 others_work [] = []
 others_work (EndBody ∷ w) = w
@@ -226,6 +243,7 @@ receive core s t =
     with_activation core s t (λ first m number slot waiter.
     if is_null (held s (error_at core first m)) then move_result core s m.locals.result (result_at core first m) else throw_from s (error_at core first m))
 
+-- the activation that a callback was given; one of another method is the trap `resume`
 abbrev pub receive_value : Core → State.State → ℕ → Value → Out
 receive_value core s method (Thing t) =
     with_activation core s t (λ first m number slot waiter. if number == method then receive core s t else stop s (Trapped trap.Resume))

@@ -21,6 +21,7 @@ use Rattle.core_tree.specs.Places.{cells_of, is_owning, empty_place, empty_place
 
 -- Elements
 
+-- the shape of an element's type
 abbrev pub shape_of_item : ItemShape → Shape
 shape_of_item item.Bool = shape.Bool
 shape_of_item (item.Int k) = shape.Int k
@@ -36,6 +37,7 @@ shape_of_item (item.Error d) = shape.Error d
 abbrev pub type_of_item : ElementType → VType
 type_of_item of = record { shape = shape_of_item of.shape; owned = true; nullable = of.nullable }
 
+-- how many cells an element of this array takes
 abbrev pub width_in : Core → Option Content → ℕ
 width_in core (Some (ArrayOf of count)) = length (cells_of core (type_of_item of))
 width_in core _ = 1
@@ -54,26 +56,32 @@ find core s _ = Nowhere
 abbrev pub used : State.State → Value → Found
 used s v = found (uses s (v ∷ [])) (There 0)
 
+-- the trap `null`
 abbrev pub is_null_trap : TrapKind → Bool
 is_null_trap trap.Null = true
 is_null_trap _ = false
 
+-- the target or receiver is null
 abbrev pub ends_null : Found → Bool
 ends_null (Fails (Trapped k)) = is_null_trap k
 ends_null _ = false
 
+-- the target or receiver is gone, or what has it
 abbrev pub ends_dead : Found → Bool
 ends_dead (Fails Dead) = true
 ends_dead _ = false
 
+-- the end of this one, or else of the later ones
 abbrev pub end_in : Found → Option VEnd → Option VEnd
 end_in (Fails e) later = Some e
 end_in _ later = later
 
+-- one of them at least is so
 abbrev pub any : (Found → Bool) → List Found → Bool
 any test [] = false
 any test (f ∷ fs) = if test f then true else any test fs
 
+-- the end that the first of them brings
 abbrev pub first_end : List Found → Option VEnd
 first_end [] = None
 first_end (f ∷ fs) = end_in f (first_end fs)
@@ -101,6 +109,7 @@ filled [] vs = []
 filled (kind ∷ kinds) [] = empty_place None kind ∷ filled kinds []
 filled (kind ∷ kinds) (v ∷ vs) = record { owning = is_owning kind; holds = v; within = None } ∷ filled kinds vs
 
+-- one of the cells at least owns
 abbrev pub any_owning : List VType → Bool
 any_owning [] = false
 any_owning (kind ∷ kinds) = if is_owning kind then true else any_owning kinds
@@ -114,9 +123,11 @@ pub record Arranged : Type 0 where
   pub found : List Found
   pub cleared : List Item
 
+-- no parameters
 abbrev pub nothing_arranged : Arranged
 nothing_arranged = record { locals = []; places = []; left = []; found = []; cleared = [] }
 
+-- the number of a place that was found
 abbrev pub place_found : Found → ℕ
 place_found (There n) = n
 place_found _ = 0
@@ -135,15 +146,18 @@ with_value core s n p o rest =
       left = if any_owning (cells_of core p.kind) then left_by o ++ rest.left else rest.left;
     }
 
+-- one more parameter that is the argument's place itself
 abbrev pub with_target : Found → List Item → Arranged → Arranged
 with_target f items rest =
     record rest { locals = place_found f ∷ rest.locals; found = f ∷ rest.found; cleared = items ++ rest.cleared }
 
+-- how many new places a parameter takes
 abbrev pub cells_before : Core → CoreParameter → Mode → ℕ
 cells_before core p mode.Value = length (cells_of core p.kind)
 cells_before core p mode.Ref = 0
 cells_before core p mode.Out = 0
 
+-- one more parameter, by its mode
 abbrev pub with_parameter : Core → State.State → ℕ → CoreParameter → Mode → Operand → Arranged → Arranged
 with_parameter core s n p mode.Value o rest = with_value core s n p o rest
 with_parameter core s n p mode.Ref o rest = with_target (find core s o) [] rest
@@ -212,10 +226,12 @@ open_frame core s locals this target activation os =
 
 -- The end of a call: the result becomes an owned temporary of the caller, or is given as it is.
 
+-- no value
 abbrev pub is_void : Shape → Bool
 is_void shape.Void = true
 is_void _ = false
 
+-- a struct
 abbrev pub is_struct : Shape → Bool
 is_struct (shape.Struct n) = true
 is_struct _ = false
@@ -224,6 +240,7 @@ is_struct _ = false
 abbrev pub give_cells : State.State → Operand → List ℕ → State.State
 give_cells s o ns = give (record s { frame = record s.frame { temporaries = s.frame.temporaries ++ ns } }) o
 
+-- the result is given to the caller, who owns it where it is owned
 abbrev pub give_result : Core → State.State → VType → ℕ → State.State
 give_result core s kind n =
     if is_void kind.shape then s

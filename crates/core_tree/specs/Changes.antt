@@ -22,6 +22,7 @@ bytes_in (Some (TextOf bytes)) = bytes
 bytes_in (Some (ErrorOf domain code message)) = message
 bytes_in _ = []
 
+-- the bytes of a text value
 abbrev pub bytes_of : State.State → Value → List ℕ
 bytes_of s (Literal bytes) = bytes
 bytes_of s v = bytes_in (content_of s v)
@@ -34,13 +35,16 @@ give_text s bytes = if nat_le (2 ^ 63) (length bytes) then stop s (Trapped trap.
 abbrev pub unless_null : State.State → Value → Out → Out
 unless_null s v o = if is_null v then quiet (give s (Given Null)) else o
 
+-- a text is copied; reading it is a use
 abbrev pub copy_text : State.State → Value → Out
 copy_text s v = unless_null s v (unless (reads s (v ∷ [])) s (give_text s (bytes_of s v)))
 
+-- a fresh error of the same domain, code and message
 abbrev pub copy_error_in : State.State → Option Content → Out
 copy_error_in s (Some (ErrorOf domain code message)) = give_made s (ErrorOf domain code message) []
 copy_error_in s _ = stuck s
 
+-- an error is copied
 abbrev pub copy_error : State.State → Value → Out
 copy_error s v = unless_null s v (unless (reads s (v ∷ [])) s (copy_error_in s (content_of s v)))
 
@@ -64,6 +68,7 @@ copy_array_of core s v of count =
     let o : Out = give_made s (ArrayOf of count) (empty_array core s of count) in
     (next (CopyCells (zip (cells_in s v) (range (length s.places) (length (cells_in s v)))) ∷ []) o.0, o.1)
 
+-- the same of an array that is a thing
 abbrev pub copy_array_in : Core → State.State → Value → Option Content → Out
 copy_array_in core s v (Some (ArrayOf of count)) = copy_array_of core s v of count
 copy_array_in core s v _ = stuck s
@@ -85,6 +90,7 @@ owning_pairs [] from to = []
 owning_pairs (kind ∷ kinds) from to =
     if is_owning kind then (from, to) ∷ owning_pairs kinds (suc from) (suc to) else owning_pairs kinds (suc from) (suc to)
 
+-- the second of each pair
 abbrev pub second_of : List (ℕ × ℕ) → List ℕ
 second_of [] = []
 second_of (p ∷ ps) = p.1 ∷ second_of ps
@@ -123,13 +129,16 @@ change core s NotCopied kind o = stuck s
 
 -- Copying a cell that owns, by what it holds
 
+-- a copy of a text goes into a cell
 abbrev pub cell_text : State.State → ℕ → List ℕ → Out
 cell_text s to bytes = (put (with_thing s (TextOf bytes) []) to (Thing (next_serial s)), made (TextOf bytes))
 
+-- a copy of an array goes into a cell
 abbrev pub cell_array : Core → State.State → ℕ → Value → ElementType → ℕ → Out
 cell_array core s to v of count =
     (next (CopyCells (zip (cells_in s v) (range (length s.places) (length (cells_in s v)))) ∷ []) (put (with_thing s (ArrayOf of count) (empty_array core s of count)) to (Thing (next_serial s))), made (ArrayOf of count))
 
+-- a cell gets a copy of a text, error or array, or becomes one more owner of an object
 abbrev pub cell_thing : Core → State.State → ℕ → Value → Option Content → Out
 cell_thing core s to v (Some (TextOf bytes)) = cell_text s to bytes
 cell_thing core s to v (Some (ErrorOf domain code message)) =
@@ -137,6 +146,7 @@ cell_thing core s to v (Some (ErrorOf domain code message)) =
 cell_thing core s to v (Some (ArrayOf of count)) = cell_array core s to v of count
 cell_thing core s to v _ = if cannot_be_owned s v then stop s Dead else quiet (put s to v)
 
+-- a cell that owns gets a copy of this value
 abbrev pub copy_value : Core → State.State → ℕ → Value → Out
 copy_value core s to (Literal bytes) = cell_text s to bytes
 copy_value core s to (Message t) = unless (reads s (Message t ∷ [])) s (cell_text s to (bytes_of s (Message t)))

@@ -23,6 +23,7 @@ pub record Stepped : Type 0 where
   pub arguments : List Argument
   pub written : List ℕ
 
+-- so many spaces
 abbrev pub spaces : ℕ → List ℕ
 spaces n = replicate n 32
 
@@ -41,6 +42,7 @@ filled_number false true width (negsuc a) text = 45 ∷ replicate (width - lengt
 abbrev pub done : List Argument → List ℕ → Stepped
 done arguments written = record { mode = Copying; arguments = arguments; written = written }
 
+-- a character; a zero ends the text, and what fills it up in front still stands
 abbrev pub character : Bool → ℕ → ℕ → List Argument → Stepped
 character is_left width zero arguments = record { mode = Stopped; arguments = arguments; written = if is_left then [] else spaces (width - 1) }
 character is_left width (suc n) arguments = done arguments (filled is_left width (suc n ∷ []))
@@ -56,6 +58,7 @@ convert is_left is_zeroed width b (Integer z ∷ rest) =
 convert is_left is_zeroed width b (Written bytes ∷ rest) = done rest (filled is_left width bytes)
 convert is_left is_zeroed width b [] = done [] []
 
+-- `0` to `9`
 abbrev pub is_digit : ℕ → Bool
 is_digit b = nat_le 48 b && nat_le b 57
 
@@ -69,11 +72,13 @@ directive is_left is_zeroed width b arguments =
     else (if b == 108 then record { mode = Directive is_left is_zeroed width; arguments = arguments; written = [] }
     else convert is_left is_zeroed width b arguments))))
 
+-- one byte of the format, by where the reader stands
 abbrev pub step : Mode → ℕ → List Argument → Stepped
 step Copying b arguments = if b == 37 then record { mode = Directive false false 0; arguments = arguments; written = [] } else done arguments (b ∷ [])
 step (Directive is_left is_zeroed width) b arguments = directive is_left is_zeroed width b arguments
 step Stopped b arguments = record { mode = Stopped; arguments = arguments; written = [] }
 
+-- what the rest of a format writes
 abbrev pub write : Mode → List Argument → List ℕ → List ℕ
 write mode arguments [] = []
 write mode arguments (b ∷ bs) =

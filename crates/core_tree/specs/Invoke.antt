@@ -45,13 +45,16 @@ with_found s Nowhere go = stuck s
 
 -- Classes, and what they have in their slots
 
+-- a type that is a class
 abbrev pub as_class : Option CoreType → Option ClassInfo
 as_class (Some (declared.Class info)) = Some info
 as_class _ = None
 
+-- the class with a number
 abbrev pub class_info : Core → ℕ → Option ClassInfo
 class_info core n = as_class (slice_get core.types n)
 
+-- the class of an object
 abbrev pub class_in : Core → Option Content → Option ClassInfo
 class_in core (Some (ObjectOf n)) = class_info core n
 class_in core _ = None
@@ -60,10 +63,12 @@ class_in core _ = None
 abbrev pub class_of : Core → State.State → Value → Option ClassInfo
 class_of core s v = class_in core (content_of s v)
 
+-- what stands in a slot that was found
 abbrev pub member_of : Option Slot → Option ℕ
 member_of None = None
 member_of (Some slot) = Some slot.member
 
+-- what a class has in a slot
 abbrev pub member_in : Option ClassInfo → ℕ → Option ℕ
 member_in None slot = None
 member_in (Some info) slot = member_of (find (λ (x : Slot). x.slot == slot) info.slots)
@@ -75,6 +80,7 @@ abbrev pub begin_call : State.State → List Found → List CoreStmt → Opening
 begin_call s receiver body o =
     unless (tested (receiver ++ o.found)) s (quiet (next (o.cleared ++ map Execute body ++ EndCall o.owned s.frame ∷ []) o.state))
 
+-- the same of a method that was looked up
 abbrev pub call_with : Core → State.State → List Found → Value → List Operand → Option CoreMethod → Out
 call_with core s receiver this os None = stuck s
 call_with core s receiver this os (Some m) = begin_call s receiver m.body (open_frame core s m.locals this Null None os)
@@ -83,6 +89,7 @@ call_with core s receiver this os (Some m) = begin_call s receiver m.body (open_
 abbrev pub call_method : Core → State.State → List Found → Value → List Operand → ℕ → Out
 call_method core s receiver this os m = call_with core s receiver this os (slice_get core.methods m)
 
+-- the method that was found in a slot; where there is none the receiver is tested all the same
 abbrev pub call_found : Core → State.State → Value → List Operand → Option ℕ → Out
 call_found core s this os None = unless (tested (used s this ∷ [])) s (stuck s)
 call_found core s this os (Some m) = call_method core s (used s this ∷ []) this os m
@@ -98,9 +105,11 @@ call_lambda core s l body target os _ = begin_call s [] (body ∷ []) (open_fram
 
 -- Activations
 
+-- the parked part of an activation
 abbrev pub parked_of : ℕ → List Parked → Option Parked
 parked_of t ps = find (λ (p : Parked). p.activation == t) ps
 
+-- the others that are parked
 abbrev pub without_parked : ℕ → List Parked → List Parked
 without_parked t [] = []
 without_parked t (p ∷ ps) = if p.activation == t then ps else p ∷ without_parked t ps
@@ -110,6 +119,7 @@ abbrev pub go_on : State.State → Parked → List Item → State.State
 go_on s p behind =
     next (p.work ++ BackTo s.frame ∷ behind) (record s { frame = p.frame; parked = without_parked p.activation s.parked })
 
+-- the same of an activation that was looked up
 abbrev pub resume_by : State.State → Option Parked → Out
 resume_by s None = stop s (Trapped trap.Resume)
 resume_by s (Some p) = if p.by_yield then quiet (go_on s p (Push (Given (Number (pos 0))) ∷ [])) else stop s (Trapped trap.Resume)
@@ -132,6 +142,7 @@ abbrev pub with_receiver : State.State → List Operand → (Value → List Oper
 with_receiver s [] go = stuck s
 with_receiver s (o ∷ os) go = go (value_of s o) os
 
+-- a call, by what it calls
 abbrev pub call : Core → State.State → Callee → List Operand → Out
 call core s (callee.Static m) os = call_method core s [] Null os m
 call core s (callee.Method m) os = with_receiver s os (λ v rest. call_method core s (used s v ∷ []) v rest m)

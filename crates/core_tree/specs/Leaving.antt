@@ -28,21 +28,25 @@ arrive s items = quiet (next items (without_operands s))
 
 -- Loops and `switch`
 
+-- at the next turn of a loop: `break` ends the loop, `continue` takes the turn
 abbrev pub at_turn : State.State → Item → Way → Out
 at_turn s item Break = arrive s []
 at_turn s item Continue = arrive s (item ∷ [])
 at_turn s item way = pass s way
 
+-- at the steps of a `for`: `continue` goes on with them
 abbrev pub at_steps : State.State → Item → Way → Out
 at_steps s item Continue = arrive s (item ∷ [])
 at_steps s item way = pass s way
 
+-- at the end of a `switch`: `break` ends it
 abbrev pub at_switch : State.State → Way → Out
 at_switch s Break = arrive s []
 at_switch s way = pass s way
 
 -- `catch`
 
+-- a part without a domain takes every error, and one with a domain takes its own
 abbrev pub takes : Option ℕ → Option Content → Bool
 takes None c = true
 takes (Some d) (Some (ErrorOf domain code message)) = d == domain
@@ -59,10 +63,12 @@ catch_by core s p (CoreStmt-F.Catch domain variable body at) later =
     if takes domain (content_of s (held s p)) then caught_in core (without_operands s) p variable body else later
 catch_by core s p _ later = later
 
+-- the first of the parts that takes the error, or none
 abbrev pub catch : Core → State.State → ℕ → List CoreStmt → Out
 catch core s p [] = pass s (Throw p)
 catch core s p (c ∷ cs) = catch_by core s p (out-CoreStmt c) (catch core s p cs)
 
+-- at the `catch` parts of a `try`
 abbrev pub at_catches : Core → State.State → List CoreStmt → Way → Out
 at_catches core s cs (Throw p) = catch core s p cs
 at_catches core s cs way = pass s way

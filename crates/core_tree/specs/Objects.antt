@@ -19,6 +19,7 @@ use Rattle.core_tree.specs.Places.{Out, quiet, stuck, next, zero_of, empty_place
 use Rattle.core_tree.specs.Calls.{Opening, open_frame, tested}
 use Rattle.core_tree.specs.Invoke.{class_info, call_method}
 
+-- the base of a class
 abbrev pub base_in : Option ClassInfo → Option ℕ
 base_in None = None
 base_in (Some info) = info.base
@@ -40,6 +41,7 @@ abbrev pub begin_creation : State.State → ℕ → ℕ → CoreMethod → ℕ �
 begin_creation s class number m making frame o =
     unless (tested o.found) s (quiet (next (o.cleared ++ BeginMaking class number ∷ map Execute m.body ++ EndMaking o.owned s.frame ∷ []) (record o.state { frame = frame })))
 
+-- the type of a fresh object of a class
 abbrev pub class_type : ℕ → VType
 class_type class = record { shape = shape.Class class; owned = true; nullable = false }
 
@@ -47,6 +49,7 @@ class_type class = record { shape = shape.Class class; owned = true; nullable = 
 abbrev pub new_frame : ℕ → ℕ → Frame → Frame
 new_frame class place f = record f { this = place; result = place; result_type = class_type class }
 
+-- the same of a creation method that was looked up
 abbrev pub new_by : Core → State.State → ℕ → ℕ → List Operand → Option CoreMethod → Out
 new_by core s class number os None = stuck s
 new_by core s class number os (Some m) =
@@ -58,6 +61,7 @@ new_by core s class number os (Some m) =
 abbrev pub new_object : Core → State.State → ℕ → ℕ → List Operand → Out
 new_object core s class number os = new_by core s class number os (slice_get core.methods number)
 
+-- the same of a base's creation method that was looked up
 abbrev pub base_by : Core → State.State → ℕ → ℕ → List Operand → Option CoreMethod → Out
 base_by core s class number os None = stuck s
 base_by core s class number os (Some m) =
@@ -68,13 +72,16 @@ base_by core s class number os (Some m) =
 abbrev pub call_base : Core → State.State → ℕ → ℕ → List Operand → Out
 call_base core s class number os = base_by core s class number os (slice_get core.methods number)
 
+-- the properties that `Object (..)` gives
 abbrev pub given_properties : List GivenProperty → List ℕ
 given_properties [] = []
 given_properties (g ∷ gs) = g.property ∷ given_properties gs
 
+-- expressions that are to be evaluated
 abbrev pub evaluations : List CoreExpr → List Item
 evaluations es = map Evaluate es
 
+-- the values that `Object (..)` gives are to be evaluated
 abbrev pub given_values : List GivenProperty → List Item
 given_values [] = []
 given_values (g ∷ gs) = Evaluate g.value ∷ given_values gs
@@ -89,21 +96,26 @@ beginning s class outer (making.Object givens) = given_values givens ++ MakeObje
 abbrev pub with_no_temporaries : State.State → State.State
 with_no_temporaries s = record s { frame = record s.frame { temporaries = [] } }
 
+-- the same of a creation method that was looked up
 abbrev pub begin_making_by : State.State → ℕ → Option CoreMethod → Out
 begin_making_by s class None = stuck s
 begin_making_by s class (Some m) = quiet (next (beginning s class s.frame.temporaries m.making) (with_no_temporaries s))
 
+-- a creation method begins: by `base (..)`, or by `Object (..)`
 abbrev pub begin_making : Core → State.State → ℕ → ℕ → Out
 begin_making core s class number = begin_making_by s class (slice_get core.methods number)
 
+-- the types of all cells of a class
 abbrev pub class_cells : Option ClassInfo → List VType
 class_cells None = []
 class_cells (Some info) = info.cells
 
+-- the initialisers of a class
 abbrev pub class_initials : Option ClassInfo → List Item
 class_initials None = []
 class_initials (Some info) = map Execute info.initials
 
+-- the `construct` blocks of a class
 abbrev pub class_blocks : Option ClassInfo → List Item
 class_blocks None = []
 class_blocks (Some info) = map RunMethod info.construct_blocks
@@ -114,6 +126,7 @@ given_to n [] os found = found
 given_to n (p ∷ ps) [] found = found
 given_to n (p ∷ ps) (o ∷ os) found = given_to n ps os (if n == p then Some o else found)
 
+-- a construct property gets its default, or zero or null
 abbrev pub set_default : ℕ → Option CoreProperty → List Item
 set_default n None = []
 set_default n (Some p) = default_of p.default
@@ -122,6 +135,7 @@ set_default n (Some p) = default_of p.default
     default_of [] = Push (Given (zero_of p.kind.shape)) ∷ SetProperty n ∷ []
     default_of (e ∷ es) = Evaluate e ∷ SetProperty n ∷ []
 
+-- a construct property gets what is given, or its default
 abbrev pub set_given : Core → ℕ → Option Operand → List Item
 set_given core n None = set_default n (slice_get core.properties n)
 set_given core n (Some o) = Push o ∷ SetProperty n ∷ []
@@ -131,10 +145,12 @@ abbrev pub set_constructs : Core → List ℕ → List Operand → List ℕ → 
 set_constructs core ps os [] = []
 set_constructs core ps os (n ∷ ns) = set_given core n (given_to n ps os None) ++ set_constructs core ps os ns
 
+-- the construct properties of a class are set
 abbrev pub class_constructs : Core → List ℕ → List Operand → Option ClassInfo → List Item
 class_constructs core ps os None = []
 class_constructs core ps os (Some info) = set_constructs core ps os info.construct_properties
 
+-- a property that is set while the object is made
 abbrev pub is_construct : Option CoreProperty → Bool
 is_construct None = false
 is_construct (Some p) = p.is_construct
@@ -176,6 +192,7 @@ abbrev pub own_places : State.State → Option ThingState → ClassInfo → List
 own_places s None info = []
 own_places s (Some x) info = owning_from s (range (x.first + info.own) (length info.cells - info.own))
 
+-- the destructor, where there is one, runs before the rest
 abbrev pub destroy_by : Core → State.State → ℕ → Item → Option ℕ → Out
 destroy_by core s t rest None = quiet (next (rest ∷ []) s)
 destroy_by core s t rest (Some m) = call_method core (next (rest ∷ []) s) [] (Thing t) [] m
@@ -185,6 +202,7 @@ abbrev pub destroy : Core → State.State → ℕ → Option ClassInfo → Out
 destroy core s t None = stuck s
 destroy core s t (Some info) = destroy_by core s t (End t (Places (own_places s (thing_at s t) info) info.base)) info.destructor
 
+-- a handler of this object
 abbrev pub is_of : ℕ → Handler → Bool
 is_of t h = h.object == t
 
@@ -193,10 +211,12 @@ abbrev pub owning_handler : State.State → ℕ → List Handler → Option ℕ
 owning_handler s t [] = None
 owning_handler s t (h ∷ hs) = if is_of t h then (if is_owning_place s h.place then Some h.place else owning_handler s t hs) else owning_handler s t hs
 
+-- the handlers but for the one with this place
 abbrev pub without_place : ℕ → List Handler → List Handler
 without_place n [] = []
 without_place n (h ∷ hs) = if h.place == n then hs else h ∷ without_place n hs
 
+-- the handlers but for those of this object
 abbrev pub without_object : ℕ → List Handler → List Handler
 without_object t [] = []
 without_object t (h ∷ hs) = if is_of t h then without_object t hs else h ∷ without_object t hs
@@ -206,6 +226,7 @@ abbrev pub drop_handlers : State.State → ℕ → Option ℕ → Out
 drop_handlers s t None = went (record s { handlers = without_object t s.handlers }) t
 drop_handlers s t (Some n) = quiet (give_up (next (End t Handlers ∷ []) (record s { handlers = without_place n s.handlers })) n)
 
+-- a thing that is an object of a class
 abbrev pub is_object_of : Option ThingState → Bool
 is_object_of None = false
 is_object_of (Some x) = object_content x.content

@@ -41,29 +41,35 @@ use Rattle.core_tree.specs.Loop.{loop_call}
 
 -- Operands by their number
 
+-- no operands
 abbrev pub on_none : State.State → List Operand → Out → Out
 on_none s [] o = o
 on_none s (x ∷ xs) o = stuck s
 
+-- one operand
 abbrev pub on_one : State.State → List Operand → (Operand → Out) → Out
 on_one s [] go = stuck s
 on_one s (x ∷ []) go = go x
 on_one s (x ∷ y ∷ xs) go = stuck s
 
+-- two operands
 abbrev pub on_two : State.State → List Operand → (Operand → Operand → Out) → Out
 on_two s [] go = stuck s
 on_two s (x ∷ xs) go = on_one s xs (λ y. go x y)
 
+-- three operands
 abbrev pub on_three : State.State → List Operand → (Operand → Operand → Operand → Out) → Out
 on_three s [] go = stuck s
 on_three s (x ∷ xs) go = on_two s xs (λ y z. go x y z)
 
+-- a number
 abbrev pub with_number : State.State → Value → (ℤ → Out) → Out
 with_number s (Number z) go = go z
 with_number s v go = stuck s
 
 -- Numbers
 
+-- a number, or the trap that took its place
 abbrev pub give_result : State.State → Result ℤ TrapKind → Out
 give_result s (Ok z) = quiet (give_number s z)
 give_result s (Err k) = stop s (Trapped k)
@@ -76,6 +82,7 @@ arithmetic_of s o kind (a ∷ b ∷ os) = with_number s (value_of s a) (λ x. wi
 
 -- Texts
 
+-- an operand as a format takes it
 abbrev pub argument_of : State.State → Operand → Argument
 argument_of s o = as_argument (value_of s o)
   where
@@ -85,12 +92,15 @@ argument_of s o = as_argument (value_of s o)
     as_argument (Property name) = Written name
     as_argument v = Written (bytes_of s v)
 
+-- operands as a format takes them
 abbrev pub arguments_of : State.State → List Operand → List Argument
 arguments_of s os = map (argument_of s) os
 
+-- the values of operands
 abbrev pub values : State.State → List Operand → List Value
 values s os = map (value_of s) os
 
+-- where a print goes
 abbrev pub stream_of : Bool → Stream
 stream_of true = stream.Err
 stream_of false = stream.Out
@@ -99,10 +109,12 @@ stream_of false = stream.Out
 abbrev pub print : State.State → Bool → List ℕ → Out
 print s is_error bytes = (s, Happens (Print (stream_of is_error) bytes) ∷ [])
 
+-- the bytes of the one text that is printed
 abbrev pub written_in : List Argument → List ℕ
 written_in (Written bytes ∷ as') = bytes
 written_in _ = []
 
+-- what a text function gave
 abbrev pub give_text_result : State.State → TextResult → Out
 give_text_result s (Makes bytes) = give_text s bytes
 give_text_result s (Gives z) = quiet (give_number s z)
@@ -126,20 +138,24 @@ text_less s Null w = true
 text_less s v Null = false
 text_less s v w = bytes_less (bytes_of s v) (bytes_of s w)
 
+-- null is equal to null, and texts are equal by their bytes
 abbrev pub text_equal : State.State → Value → Value → Bool
 text_equal s Null Null = true
 text_equal s Null w = false
 text_equal s v Null = false
 text_equal s v w = bytes_equal (bytes_of s v) (bytes_of s w)
 
+-- comparing texts reads them
 abbrev pub compare_texts : State.State → Comparison → Value → Value → Out
 compare_texts s c v w = unless (reads s (v ∷ w ∷ [])) s (quiet (give_bool s (compared c (text_less s v w) (text_equal s v w))))
 
 -- Types
 
+-- a number is in a list
 abbrev pub contains : ℕ → List ℕ → Bool
 contains n ns = list_any (λ m. m == n) ns
 
+-- a class is of a type
 abbrev pub is_a_in : Option ClassInfo → ℕ → Bool
 is_a_in None n = false
 is_a_in (Some info) n = contains n info.is_a
@@ -153,11 +169,13 @@ abbrev pub cast : Core → State.State → Operand → ℕ → Out
 cast core s o n =
     if is_null (value_of s o) then quiet (give s o) else unless (reads s (value_of s o ∷ [])) s (if is_a core s (value_of s o) n then quiet (give s o) else stop s (Trapped trap.Cast))
 
+-- the object where it is of the type, else null
 abbrev pub as_type : Core → State.State → Operand → ℕ → Out
 as_type core s o n = unless (reads s (value_of s o ∷ [])) s (if is_a core s (value_of s o) n then quiet (give s o) else quiet (give_value s Null))
 
 -- Arrays and structs
 
+-- an array of empty elements; a negative length is the trap `length`
 abbrev pub new_array : Core → State.State → ElementType → ℤ → Out
 new_array core s of (negsuc n) = stop s (Trapped trap.Length)
 new_array core s of (pos n) = if nat_le (2 ^ 63) n then stop s (Trapped trap.Length) else give_made s (ArrayOf of n) (empty_array core s of n)
@@ -185,10 +203,12 @@ new_struct core s number os =
 abbrev pub append_values : State.State → List ℕ → List Operand → List Value
 append_values s cells os = map (held s) cells ++ flat_map (values_of s) os
 
+-- how many elements an array has; null counts as empty
 abbrev pub element_count : Option Content → ℕ
 element_count (Some (ArrayOf of n)) = n
 element_count _ = 0
 
+-- the same, where the array's place is found
 abbrev pub append_at : Core → State.State → ElementType → ℕ → Operand → Out
 append_at core s of n x =
     let old : Value = held s n in
@@ -197,6 +217,7 @@ append_at core s of n x =
     if nat_le (2 ^ 63) count then stop s (Trapped trap.Length)
     else (release (put (with_thing (emptied s (cells_in s old ++ left_by x)) (ArrayOf of count) ps) n (Thing (next_serial s))) old, made (ArrayOf of count))
 
+-- an array in a place gets one more element
 abbrev pub append : Core → State.State → ElementType → Operand → Operand → Out
 append core s of target x = with_found s (find core s target) (λ n. unless (reads s (held s n ∷ [])) s (append_at core s of n x))
 
@@ -207,9 +228,11 @@ abbrev pub method_value : State.State → Value → Option ℕ → Out
 method_value s v None = stuck s
 method_value s v (Some m) = if cannot_be_owned s v then stop s Dead else quiet (give_owned s (Delegate (Method m) v))
 
+-- the receiver is tested, and then the delegate is made
 abbrev pub receiver_value : State.State → Operand → Option ℕ → Out
 receiver_value s o m = unless (uses s (value_of s o ∷ [])) s (method_value s (value_of s o) m)
 
+-- a delegate to a method, by how the method is found
 abbrev pub delegate_to : Core → State.State → Callee → List Operand → Out
 delegate_to core s (callee.Static m) os = method_value s Null (Some m)
 delegate_to core s (callee.Method m) os = on_one s os (λ o. receiver_value s o (Some m))
@@ -223,15 +246,19 @@ abbrev pub then_read : Bool → VType → Operand → List Item
 then_read true kind target = Push target ∷ ReadAway kind ∷ []
 then_read false kind target = []
 
+-- the value is stored, and the target is read where the assignment's own value is used
 abbrev pub assign : State.State → VType → Bool → Operand → Operand → Out
 assign s kind is_used target o = quiet (next (Push target ∷ Push o ∷ Store ∷ then_read is_used kind target) s)
 
+-- the type of a place for an integer
 abbrev pub number_type : IntKind → VType
 number_type kind = record { shape = shape.Int kind; owned = true; nullable = false }
 
+-- the type of a place for a text
 abbrev pub text_type : VType
 text_type = record { shape = shape.Text; owned = true; nullable = false }
 
+-- a number is stored, or the trap comes that took its place
 abbrev pub store_number : State.State → IntKind → Bool → Operand → Result ℤ TrapKind → Out
 store_number s kind is_used target (Err k) = stop s (Trapped k)
 store_number s kind is_used target (Ok z) = assign s (number_type kind) is_used target (Given (Number (wrap kind z)))
@@ -247,10 +274,12 @@ increment_by s kind is_postfix is_used target old (Err k) = stop s (Trapped k)
 increment_by s kind true is_used target old (Ok z) = quiet (next (Push target ∷ Push (Given (Number z)) ∷ Store ∷ Push (Given (Number old)) ∷ []) s)
 increment_by s kind false is_used target old (Ok z) = assign s (number_type kind) is_used target (Given (Number z))
 
+-- the number that the target held is changed by one
 abbrev pub increment : State.State → Arithmetic → IntKind → Bool → Bool → Operand → Operand → Out
 increment s o kind is_postfix is_used target a =
     with_number s (value_of s a) (λ x. increment_by s kind is_postfix is_used target x (calculate o kind x (pos 1)))
 
+-- the type of a place for an array
 abbrev pub array_type : ElementType → VType
 array_type of = record { shape = shape.Array of; owned = true; nullable = false }
 
@@ -261,10 +290,12 @@ assign_text s is_used target a b =
 
 -- Errors and parts of things
 
+-- a fresh error; a message of 2^63 bytes or more is the trap `length`
 abbrev pub new_error : State.State → ℕ → ℤ → List ℕ → Out
 new_error s domain code message =
     if nat_le (2 ^ 63) (length message) then stop s (Trapped trap.Length) else give_made s (ErrorOf domain code message) []
 
+-- the part of a thing that is there
 abbrev pub part_in : State.State → Part → Value → Option Content → Out
 part_in s part.ErrorMessage (Thing t) c = quiet (give_value s (Message t))
 part_in s part.ErrorCode v (Some (ErrorOf domain code message)) = quiet (give_number s code)
@@ -273,9 +304,11 @@ part_in s part.ArrayLength v (Some (ArrayOf of count)) = quiet (give_number s (s
 part_in s part.PropertyName (Property name) c = quiet (give_value s (Literal name))
 part_in s p v c = stuck s
 
+-- a part of a thing: null is the trap `null`, and a gone thing is a dead use
 abbrev pub part_of : State.State → Part → Value → Out
 part_of s p v = unless (uses s (v ∷ [])) s (part_in s p v (content_of s v))
 
+-- a number by its sign and size
 abbrev pub signed_number : Bool → ℕ → ℤ
 signed_number true zero = pos 0
 signed_number true (suc n) = negsuc n

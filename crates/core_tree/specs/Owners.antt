@@ -13,6 +13,7 @@ owned_by (Delegate (Method m) (Thing t)) = Some t
 owned_by (Delegate (Body lambda body at) (Thing t)) = Some t
 owned_by _ = None
 
+-- it is this thing
 abbrev pub is_thing : ℕ → Option ℕ → Bool
 is_thing t None = false
 is_thing t (Some u) = t == u
@@ -47,6 +48,7 @@ abbrev pub thing_at : State → ℕ → Option ThingState
 thing_at s zero = None
 thing_at s (suc n) = slice_get s.things n
 
+-- the kind of a thing, as the trace names it
 abbrev pub kind_of : Content → ThingKind
 kind_of (ObjectOf class) = kind.Object
 kind_of LoopOf = kind.Object
@@ -56,6 +58,7 @@ kind_of (ScopeOf n has_outer has_this) = kind.Scope
 kind_of (ErrorOf domain code message) = kind.Error
 kind_of (ActivationOf method slot waiter) = kind.Activation
 
+-- the thing is gone
 abbrev pub is_gone_status : Status → Bool
 is_gone_status Gone = true
 is_gone_status _ = false

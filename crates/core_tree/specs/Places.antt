@@ -44,10 +44,12 @@ abbrev pub struct_cells : Option CoreType → List VType
 struct_cells (Some (declared.Struct info)) = info.cells
 struct_cells _ = []
 
+-- the same, by the shape
 abbrev pub cells_by : Core → VType → Shape → List VType
 cells_by core kind (shape.Struct number) = struct_cells (slice_get core.types number)
 cells_by core kind _ = kind ∷ []
 
+-- the types of the cells that a value of a type takes
 abbrev pub cells_of : Core → VType → List VType
 cells_of core kind = cells_by core kind kind.shape
 
@@ -62,6 +64,7 @@ zero_of (shape.Int k) = Number (pos 0)
 zero_of (shape.Enum n) = Number (pos 0)
 zero_of _ = Null
 
+-- an empty place for a type
 abbrev pub empty_place : Option ℕ → VType → Place
 empty_place within kind = record { owning = is_owning kind; holds = zero_of kind.shape; within = within }
 
@@ -81,20 +84,25 @@ range n (suc count) = n ∷ range (suc n) count
 
 -- What places hold
 
+-- what a place holds, if it is there
 abbrev pub held_in : Option Place → Value
 held_in None = Null
 held_in (Some p) = p.holds
 
+-- what the place with a number holds
 abbrev pub held : State.State → ℕ → Value
 held s n = held_in (slice_get s.places n)
 
+-- whether a place owns, if it is there
 abbrev pub owning_in : Option Place → Bool
 owning_in None = false
 owning_in (Some p) = p.owning
 
+-- whether the place with a number owns
 abbrev pub is_owning_place : State.State → ℕ → Bool
 is_owning_place s n = owning_in (slice_get s.places n)
 
+-- the list of places, one of which holds this now
 abbrev pub put_in : List Place → ℕ → Value → List Place
 put_in [] n v = []
 put_in (p ∷ ps) zero v = record p { holds = v } ∷ ps
@@ -109,6 +117,7 @@ abbrev pub owning_from : State.State → List ℕ → List ℕ
 owning_from s [] = []
 owning_from s (n ∷ ns) = if is_owning_place s n then n ∷ owning_from s ns else owning_from s ns
 
+-- new places behind the others
 abbrev pub add_places : State.State → List Place → State.State
 add_places s ps = record s { places = s.places ++ ps }
 
@@ -118,14 +127,17 @@ next_place s = length s.places
 
 -- Things
 
+-- how far a thing is
 abbrev pub status_in : Option ThingState → Status
 status_in None = Gone
 status_in (Some x) = x.status
 
+-- it is gone
 abbrev pub is_gone_now : Status → Bool
 is_gone_now Gone = true
 is_gone_now _ = false
 
+-- it is live
 abbrev pub is_live_now : Status → Bool
 is_live_now Live = true
 is_live_now _ = false
@@ -141,10 +153,12 @@ abbrev pub cannot_be_owned : State.State → Value → Bool
 cannot_be_owned s (Thing t) = not (is_live_now (status_in (thing_at s t)))
 cannot_be_owned s _ = false
 
+-- null
 abbrev pub is_null : Value → Bool
 is_null Null = true
 is_null _ = false
 
+-- what a thing is, if it is there
 abbrev pub content_in : Option ThingState → Option Content
 content_in None = None
 content_in (Some x) = Some x.content
@@ -167,9 +181,11 @@ with_thing s content ps =
 abbrev pub next_serial : State.State → ℕ
 next_serial s = suc (length s.things)
 
+-- the trace says that a thing was made
 abbrev pub made : Content → List Said
 made content = Happens (Made (kind_of content)) ∷ []
 
+-- the things, one of which is this far now
 abbrev pub with_status : List ThingState → ℕ → Status → List ThingState
 with_status [] t status = []
 with_status (x ∷ xs) zero status = x ∷ xs
@@ -178,6 +194,7 @@ with_status (x ∷ xs) (suc (suc t)) status = x ∷ with_status xs (suc t) statu
 
 -- The tests of a step: the null tests of all its parts, then the dead uses.
 
+-- what ends a step that uses all of these values
 abbrev pub uses : State.State → List Value → Option VEnd
 uses s vs = if list_any is_null vs then Some (Trapped trap.Null) else (if list_any (is_gone s) vs then Some Dead else None)
 
@@ -200,6 +217,7 @@ first_stage s x (TextOf bytes) = Last
 first_stage s x (ErrorOf domain code message) = Last
 first_stage s x _ = Places (owning_from s (range x.first x.count)) None
 
+-- a delegate with this target
 abbrev pub has_target : ℕ → Value → Bool
 has_target t (Delegate code (Thing u)) = t == u
 has_target t v = false
@@ -210,6 +228,7 @@ without_target s t [] = []
 without_target s t (h ∷ hs) =
     if not (is_owning_place s h.place) && has_target t (held s h.place) then without_target s t hs else h ∷ without_target s t hs
 
+-- the same of a thing that was looked up
 abbrev pub begin_ending_of : State.State → ℕ → Option ThingState → State.State
 begin_ending_of s t None = s
 begin_ending_of s t (Some x) =
@@ -219,6 +238,7 @@ begin_ending_of s t (Some x) =
 abbrev pub begin_ending : State.State → ℕ → State.State
 begin_ending s t = begin_ending_of s t (thing_at s t)
 
+-- the thing is ending where it has no owner left
 abbrev pub release_thing : State.State → Option ℕ → State.State
 release_thing s None = s
 release_thing s (Some t) = if is_unowned s t then begin_ending s t else s
@@ -233,6 +253,7 @@ give_up s n = release (put s n Null) (held s n)
 
 -- Operands
 
+-- the value that an operand stands for
 abbrev pub value_of : State.State → Operand → Value
 value_of s (Given v) = v
 value_of s (Owned n) = held s n
@@ -243,16 +264,20 @@ value_of s _ = Null
 abbrev pub give : State.State → Operand → State.State
 give s o = record s { frame = record s.frame { operands = o ∷ s.frame.operands } }
 
+-- a value that nothing here owns is given
 abbrev pub give_value : State.State → Value → State.State
 give_value s v = give s (Given v)
 
+-- a number is given
 abbrev pub give_number : State.State → ℤ → State.State
 give_number s z = give s (Given (Number z))
 
+-- a `bool` as a number
 abbrev pub bit : Bool → ℤ
 bit true = pos 1
 bit false = pos 0
 
+-- a `bool` is given
 abbrev pub give_bool : State.State → Bool → State.State
 give_bool s b = give_number s (bit b)
 
@@ -278,10 +303,12 @@ pub data Found : Type 0 where
   Fails : VEnd → Found
   Nowhere : Found
 
+-- a place, unless a test ends the run
 abbrev pub found : Option VEnd → Found → Found
 found None f = f
 found (Some e) f = Fails e
 
+-- the thing that has the place is gone
 abbrev pub within_gone : State.State → Option Place → Bool
 within_gone s None = false
 within_gone s (Some p) = gone_within p.within
@@ -294,6 +321,7 @@ within_gone s (Some p) = gone_within p.within
 abbrev pub find_at : State.State → ℕ → Found
 find_at s n = if within_gone s (slice_get s.places n) then Fails Dead else There n
 
+-- a place of a thing, counted from its first
 abbrev pub first_of : Option ThingState → ℕ → Found
 first_of None k = Nowhere
 first_of (Some x) k = There (x.first + k)
@@ -309,6 +337,7 @@ abbrev pub is_inside : ℤ → ℕ → Bool
 is_inside (pos i) n = nat_lt i n
 is_inside (negsuc i) n = false
 
+-- an index that is not negative
 abbrev pub nat_of : ℤ → ℕ
 nat_of (pos i) = i
 nat_of (negsuc i) = 0
@@ -318,6 +347,7 @@ abbrev pub find_element_if : Bool → ℕ → Found
 find_element_if true n = There n
 find_element_if false n = Fails (Trapped trap.Index)
 
+-- an element of an array that is a thing
 abbrev pub find_element_in : Option ThingState → ℕ → ℤ → Found
 find_element_in None width i = Nowhere
 find_element_in (Some x) width i = element_of x.content
@@ -334,6 +364,7 @@ find_element s v width i = found (uses s (v ∷ [])) Nowhere
 
 -- Scopes, outward from one: each scope on the way is used.
 
+-- where a scope's outer scope stands: behind its variables
 abbrev pub outer_in : Option ThingState → ℕ
 outer_in None = 0
 outer_in (Some x) = outer_place x.content
@@ -352,10 +383,12 @@ abbrev pub scope_from : State.State → Value → ℕ → Result Value VEnd
 scope_from s v zero = if is_gone s v then Err Dead else Ok v
 scope_from s v (suc n) = if is_gone s v then Err Dead else scope_from s (held s (outer_place_of s v)) n
 
+-- a variable of the scope that was reached
 abbrev pub variable_in : State.State → Result Value VEnd → ℕ → Found
 variable_in s (Err e) k = Fails e
 variable_in s (Ok v) k = find_cell s v k
 
+-- a variable of the scope that is so many outward
 abbrev pub find_variable : State.State → Value → ℕ → ℕ → Found
 find_variable s v outward k = variable_in s (scope_from s v outward) k
 
@@ -369,10 +402,12 @@ this_in (Some x) = this_place x.content
     this_place (ScopeOf variables false has_this) = variables
     this_place _ = 0
 
+-- which of its places holds the `this` of a scope
 abbrev pub this_cell : State.State → Value → ℕ
 this_cell s (Thing t) = this_in (thing_at s t)
 this_cell s v = 0
 
+-- the place `this` of the scope that was reached
 abbrev pub this_of : State.State → Result Value VEnd → Found
 this_of s (Err e) = Fails e
 this_of s (Ok v) = find_cell s v (this_cell s v)

@@ -18,6 +18,7 @@ use Rattle.core_tree.specs.Storing.{same_reference, left_empty}
 
 -- Emission
 
+-- the types of a signal's parameters
 abbrev pub signal_types : Option CoreSignal → List VType
 signal_types None = []
 signal_types (Some signal) = signal.parameters
@@ -40,15 +41,18 @@ open_emission s v signal detail vs =
 abbrev pub emit : State.State → ℕ → Value → List Value → Out
 emit s signal v vs = unless (uses s (v ∷ [])) s (if cannot_be_owned s v then stop s Dead else quiet (open_emission s v signal None vs))
 
+-- connected without a detail, or with this one
 abbrev pub same_detail : Option (List ℕ) → Option (List ℕ) → Bool
 same_detail None detail = true
 same_detail (Some name) None = false
 same_detail (Some name) (Some detail) = bytes_equal name detail
 
+-- the value is this thing
 abbrev pub is_serial : ℕ → Value → Bool
 is_serial t (Thing u) = t == u
 is_serial t v = false
 
+-- a handler of this phase
 abbrev pub in_phase : Phase → Bool → Bool
 in_phase Before is_after = not is_after
 in_phase Class is_after = false
@@ -59,14 +63,17 @@ abbrev pub is_next : State.State → Emission → Phase → Handler → Bool
 is_next s x phase h =
     is_serial h.object (held s x.instance) && h.signal == x.signal && same_detail h.detail x.detail && nat_le h.id x.limit && nat_lt x.last h.id && in_phase phase h.is_after
 
+-- the first of the handlers that is next
 abbrev pub find_handler : State.State → Emission → Phase → List Handler → Option Handler
 find_handler s x phase [] = None
 find_handler s x phase (h ∷ hs) = if is_next s x phase h then Some h else find_handler s x phase hs
 
+-- the sender, where the handler takes it
 abbrev pub sender_item : Bool → Value → List Item
 sender_item true v = Push (Given v) ∷ []
 sender_item false v = []
 
+-- the arguments, where the handler takes them
 abbrev pub taken_arguments : Bool → List Item → List Item
 taken_arguments true items = items
 taken_arguments false items = []
@@ -84,6 +91,7 @@ run_handler s x phase arguments h =
     }
     )
 
+-- the target of a delegate
 abbrev pub target_of : Value → Value
 target_of (Delegate code target) = target
 target_of v = Null
@@ -94,6 +102,7 @@ run_class s x arguments None = quiet (next (Emit (record x { last = 0 }) After �
 run_class s x arguments (Some slot) =
     quiet (next (arguments ++ CallClassHandler (held s x.instance) slot s.frame.operands ∷ Emit (record x { last = 0 }) After ∷ []) (record s { frame = record s.frame { operands = [] } }))
 
+-- the slot of a signal's class handler, where it is virtual
 abbrev pub class_slot : Option CoreSignal → Option ℕ
 class_slot None = None
 class_slot (Some signal) = signal.class_handler
@@ -104,6 +113,7 @@ next_phase s x Before arguments signal = quiet (next (Emit x Class ∷ []) s)
 next_phase s x Class arguments signal = run_class s x arguments (class_slot signal)
 next_phase s x After arguments signal = quiet (next (GiveUp x.instance ∷ []) s)
 
+-- the next handler runs, or the next phase comes
 abbrev pub next_handler : State.State → Emission → Phase → List Item → Option CoreSignal → Option Handler → Out
 next_handler s x phase arguments signal None = next_phase s x phase arguments signal
 next_handler s x phase arguments signal (Some h) =
@@ -118,11 +128,13 @@ emit_next core s x phase =
 abbrev pub call_handler : Core → State.State → ℕ → List Operand → Out
 call_handler core s n around = call_delegate core (record s { frame = record s.frame { operands = around } }) (held s n) (reverse s.frame.operands)
 
+-- the class handler is called on the instance
 abbrev pub call_class_handler : Core → State.State → Value → ℕ → List Operand → Out
 call_class_handler core s v slot around = call_slot core (record s { frame = record s.frame { operands = around } }) v (reverse s.frame.operands) slot
 
 -- Notification: the signal 0 is `notify` of `Object`, and its detail is the property's name.
 
+-- the emission of `notify` with the property's name as its detail and argument
 abbrev pub notify_by : State.State → Value → Option CoreProperty → Out
 notify_by s v None = stuck s
 notify_by s v (Some p) = quiet (open_emission s v 0 (Some p.name) (Property p.name ∷ []))
@@ -157,10 +169,12 @@ abbrev pub handler_place : State.State → Operand → Place
 handler_place s (Owned n) = record { owning = true; holds = held s n; within = None }
 handler_place s o = record { owning = false; holds = value_of s o; within = None }
 
+-- the serial of an object
 abbrev pub serial_of : Value → ℕ
 serial_of (Thing t) = t
 serial_of v = 0
 
+-- a handler with the next id, which is given
 abbrev pub add_handler : State.State → ℕ → Option (List ℕ) → Bool → Bool → Bool → Value → Operand → Out
 add_handler s signal detail is_after takes_sender takes_arguments v o =
     quiet (give_number (
@@ -182,11 +196,13 @@ add_handler s signal detail is_after takes_sender takes_arguments v o =
     }
     ) (pos (suc s.last_handler)))
 
+-- the receiver and the target are tested in one step, and then the handler is there
 abbrev pub connect_to : State.State → ℕ → Option (List ℕ) → Bool → Bool → Bool → Callee → Value → Option Operand → Out
 connect_to s signal detail is_after takes_sender takes_arguments to v None = stuck s
 connect_to s signal detail is_after takes_sender takes_arguments to v (Some o) =
     unless (tested (used s v ∷ target_tests s to (value_of s o))) s (add_handler s signal detail is_after takes_sender takes_arguments v o)
 
+-- a handler is connected
 abbrev pub connect : Core → State.State → ℕ → Option (List ℕ) → Bool → Bool → Bool → Callee → List Operand → Out
 connect core s signal detail is_after takes_sender takes_arguments to [] = stuck s
 connect core s signal detail is_after takes_sender takes_arguments to (o ∷ os) =
@@ -194,14 +210,17 @@ connect core s signal detail is_after takes_sender takes_arguments to (o ∷ os)
 
 -- Disconnecting
 
+-- a handler of this object and signal, with this delegate
 abbrev pub is_connected : State.State → ℕ → ℕ → Value → Handler → Bool
 is_connected s t signal v h = h.object == t && h.signal == signal && same_reference (held s h.place) v
 
+-- the handlers but for those
 abbrev pub without_connected : State.State → ℕ → ℕ → Value → List Handler → List Handler
 without_connected s t signal v [] = []
 without_connected s t signal v (h ∷ hs) =
     if is_connected s t signal v h then without_connected s t signal v hs else h ∷ without_connected s t signal v hs
 
+-- the receiver and the target are tested in one step, and then the handlers go
 abbrev pub disconnect_from : State.State → ℕ → Callee → Value → Option Operand → Out
 disconnect_from s signal to v None = stuck s
 disconnect_from s signal to v (Some o) =
@@ -212,18 +231,22 @@ abbrev pub disconnect : Core → State.State → ℕ → Callee → List Operand
 disconnect core s signal to [] = stuck s
 disconnect core s signal to (o ∷ os) = disconnect_from s signal to (value_of s o) (handler_code core s to os)
 
+-- a handler of this object with this id
 abbrev pub has_id : ℕ → ℤ → Handler → Bool
 has_id t (pos n) h = h.object == t && h.id == n
 has_id t z h = false
 
+-- the handler of an object with an id
 abbrev pub handler_with_id : ℕ → ℤ → List Handler → Option Handler
 handler_with_id t z [] = None
 handler_with_id t z (h ∷ hs) = if has_id t z h then Some h else handler_with_id t z hs
 
+-- the handlers but for the one with an id
 abbrev pub without_id : ℕ → List Handler → List Handler
 without_id n [] = []
 without_id n (h ∷ hs) = if h.id == n then hs else h ∷ without_id n hs
 
+-- the handler goes, and its place is given up where it owns
 abbrev pub remove_handler : State.State → Option Handler → Out
 remove_handler s None = quiet s
 remove_handler s (Some h) =

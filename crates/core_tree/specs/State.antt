@@ -232,6 +232,7 @@ pub data Item : Type 0 where
   -- the end of `main`
   EndMain : Item
 
+-- a thing is live, then ending, then gone
 pub data Status : Type 0 where
   Live Ending Gone : Status
 

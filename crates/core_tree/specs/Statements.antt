@@ -34,6 +34,7 @@ use Rattle.core_tree.specs.Operations.{text_equal, signed_number}
 abbrev pub Expression : Type 0
 Expression = CoreExpr-F CoreExpr CoreStmt
 
+-- a statement, one layer of it
 abbrev pub Statement : Type 0
 Statement = CoreStmt-F CoreExpr CoreStmt
 
@@ -48,13 +49,16 @@ abbrev pub give_delegate : State.State → Bool → Value → Value → Out
 give_delegate s false target v = quiet (give_value s v)
 give_delegate s true target v = if cannot_be_owned s target then stop s Dead else quiet (give_owned s v)
 
+-- a scope, or the end that the way to it brings
 abbrev pub with_scope : State.State → Result Value VEnd → (Value → Out) → Out
 with_scope s (Err e) go = stop s e
 with_scope s (Ok v) go = go v
 
+-- the scope that code reaches
 abbrev pub scope_value : State.State → ScopeAt → Result Value VEnd
 scope_value s at = scope_from s (way_begins s at.via) at.outward
 
+-- a lambda, by what it is bound to
 abbrev pub lambda_to : State.State → Lambda → CoreStmt → Span → Target → Out
 lambda_to s l body at bound.Nothing = give_delegate s l.is_owning Null (Delegate (Body l body at) Null)
 lambda_to s l body at (bound.This this) =
@@ -62,6 +66,7 @@ lambda_to s l body at (bound.This this) =
 lambda_to s l body at (bound.Captures scope) =
     with_scope s (scope_value s scope) (λ v. give_delegate s l.is_owning v (Delegate (Body l body at) v))
 
+-- an expression puts its parts in front
 abbrev pub evaluate : State.State → Expression → Out
 evaluate s (CoreExpr-F.Apply o parts at) = with_parts s parts (Perform o s.frame.operands)
 evaluate s (CoreExpr-F.PlaceOf target at) = quiet (next (Locate target ∷ []) s)
@@ -82,6 +87,7 @@ abbrev pub taking : State.State → List Operand → (State.State → Operand �
 taking s [] go = stuck s
 taking s (o ∷ os) go = go (record s { frame = record s.frame { operands = os } }) o
 
+-- the operand given last is taken off
 abbrev pub take_operand : State.State → (State.State → Operand → Out) → Out
 take_operand s go = taking s s.frame.operands go
 
@@ -92,6 +98,7 @@ abbrev pub locals_owned : Core → State.State → List BlockLocal → List ℕ
 locals_owned core s [] = []
 locals_owned core s (l ∷ ls) = locals_owned core s ls ++ owning_from s (range (local_place s l.local) (length (cells_of core l.kind)))
 
+-- what a block does behind its scope
 abbrev pub block_work : List Item → List CoreStmt → List ℕ → List Item
 block_work prologue body owned = prologue ++ map Execute body ++ EndBlock owned ∷ []
 
@@ -101,10 +108,12 @@ parameter_operand core s p change.Move =
     if is_struct p.kind.shape then Push (OwnedCells (local_place s p.local) (length (cells_of core p.kind))) ∷ [] else Push (Owned (local_place s p.local)) ∷ []
 parameter_operand core s p ch = Push (Given (stands s p.kind (local_place s p.local))) ∷ ChangeTop ch p.kind ∷ []
 
+-- each captured parameter goes into the scope, in order
 abbrev pub capture : Core → State.State → ℕ → List CapturedParameter → List Item
 capture core s t [] = []
 capture core s t (p ∷ ps) = Push (VariableOf (Thing t) 0 p.variable) ∷ parameter_operand core s p p.change ++ Store ∷ capture core s t ps
 
+-- a value is there
 abbrev pub is_some_value : Option Value → Bool
 is_some_value None = false
 is_some_value (Some v) = true
@@ -114,9 +123,11 @@ abbrev pub link : ℕ → Option Value → List Place
 link t None = []
 link t (Some v) = record { owning = true; holds = v; within = Some t } ∷ []
 
+-- the places of a scope
 abbrev pub scope_places : Core → ℕ → Scope → Option Value → Option Value → List Place
 scope_places core t sc outer this = empty_places core (Some t) sc.variables ++ link t outer ++ link t this
 
+-- what a scope is
 abbrev pub scope_content : Core → State.State → Scope → Option Value → Option Value → Content
 scope_content core s sc outer this = ScopeOf (length (empty_places core None sc.variables)) (is_some_value outer) (is_some_value this)
 
@@ -141,6 +152,7 @@ scope_outer core s sc locals prologue body None = scope_this core s sc locals pr
 scope_outer core s sc locals prologue body (Some at) =
     with_scope s (scope_value s at) (λ v. if cannot_be_owned s v then stop s Dead else scope_this core s sc locals prologue body (Some v) sc.this)
 
+-- the same, by whether the block makes a scope
 abbrev pub enter_by : Core → State.State → List BlockLocal → List Item → List CoreStmt → List Scope → Out
 enter_by core s locals prologue body [] = quiet (next (block_work prologue body (locals_owned core s locals)) s)
 enter_by core s locals prologue body (sc ∷ scs) = scope_outer core s sc locals prologue body sc.outer
@@ -150,6 +162,7 @@ abbrev pub enter : Core → State.State → List Item → Statement → Out
 enter core s prologue (CoreStmt-F.Block locals scope body at) = enter_by core s locals prologue body scope
 enter core s prologue _ = stuck s
 
+-- a block is entered
 abbrev pub enter_block : Core → State.State → List Item → CoreStmt → Out
 enter_block core s prologue block = enter core s prologue (out-CoreStmt block)
 
@@ -159,6 +172,7 @@ enter_block core s prologue block = enter core s prologue (out-CoreStmt block)
 abbrev pub part_of_statement : State.State → List Item → List Item → Out
 part_of_statement s inside behind = quiet (next (inside ++ EndStatement s.frame.temporaries ∷ behind) (with_no_temporaries s))
 
+-- a statement puts what it does in front
 abbrev pub execute : Core → State.State → CoreStmt → Statement → Out
 execute core s whole (CoreStmt-F.Empty at) = quiet s
 execute core s whole (CoreStmt-F.Expression e at) = part_of_statement s (Evaluate e ∷ Discard ∷ []) []
@@ -191,10 +205,12 @@ turn s whole (CoreStmt-F.Do body test at) = part_of_statement s (Evaluate test �
 turn s whole (CoreStmt-F.For test steps body at) = part_of_statement s (Evaluate test ∷ []) (Repeat body whole ∷ [])
 turn s whole _ = stuck s
 
+-- what comes behind the body of a loop
 abbrev pub behind_body : CoreStmt → Statement → List Item
 behind_body whole (CoreStmt-F.For test steps body at) = Steps steps ∷ Turn whole ∷ []
 behind_body whole _ = Turn whole ∷ []
 
+-- the body and the next turn, where the condition holds
 abbrev pub repeat : State.State → CoreStmt → CoreStmt → Operand → Out
 repeat s body whole o = if is_false (value_of s o) then quiet s else quiet (next (Execute body ∷ behind_body whole (out-CoreStmt whole)) s)
 
@@ -204,6 +220,7 @@ length_in s (Arguments first count) c whole = quiet (next (Each whole (Arguments
 length_in s v (Some (ArrayOf of count)) whole = quiet (next (Each whole v 0 count ∷ []) s)
 length_in s v _ whole = stuck s
 
+-- the length of the array is read, which is a use of it
 abbrev pub begin_each : State.State → CoreStmt → Operand → Out
 begin_each s whole o = unless (uses s (value_of s o ∷ [])) s (length_in s (value_of s o) (content_of s (value_of s o)) whole)
 
@@ -212,34 +229,41 @@ abbrev pub bind_element : CoreExpr → ElementType → Change → Value → ℕ 
 bind_element variable of ch v i =
     Locate variable ∷ Push (ElementOf v (pos i)) ∷ ReadAway (type_of_item of) ∷ ChangeTop ch (type_of_item of) ∷ Store ∷ []
 
+-- the element is read, and the body done
 abbrev pub each_turn : Core → State.State → CoreStmt → Value → ℕ → ℕ → Statement → Out
 each_turn core s whole v i n (CoreStmt-F.Foreach array of variable ch body at) =
     enter_block core (next (Each whole v (suc i) n ∷ []) s) (bind_element variable of ch v i) body
 each_turn core s whole v i n _ = stuck s
 
+-- the next turn, where there is one
 abbrev pub each : Core → State.State → CoreStmt → Value → ℕ → ℕ → Out
 each core s whole v i n = if nat_lt i n then each_turn core s whole v i n (out-CoreStmt whole) else quiet s
 
 -- `switch`
 
+-- a label is the value
 abbrev pub label_matches : State.State → Value → Expression → Bool
 label_matches s (Number z) (CoreExpr-F.Apply (op.Number is_negative size) parts at) = int_equal z (signed_number is_negative size)
 label_matches s v (CoreExpr-F.Apply (op.Text bytes) parts at) = text_equal s v (Literal bytes)
 label_matches s v (CoreExpr-F.Apply op.Null parts at) = is_null v
 label_matches s v _ = false
 
+-- one of the labels is the value
 abbrev pub any_label : State.State → Value → List CoreExpr → Bool
 any_label s v [] = false
 any_label s v (e ∷ es) = if label_matches s v (out-CoreExpr e) then true else any_label s v es
 
+-- this one, or a later one
 abbrev pub body_if : Bool → CoreStmt → Option CoreStmt → Option CoreStmt
 body_if true body later = Some body
 body_if false body later = later
 
+-- the block of a section that has the value among its labels
 abbrev pub section_matching : State.State → Value → Statement → Option CoreStmt → Option CoreStmt
 section_matching s v (CoreStmt-F.Section labels is_default body at) later = body_if (any_label s v labels) body later
 section_matching s v _ later = later
 
+-- the block of a section that has the label `default`
 abbrev pub section_default : Statement → Option CoreStmt → Option CoreStmt
 section_default (CoreStmt-F.Section labels is_default body at) later = body_if is_default body later
 section_default _ later = later
@@ -254,6 +278,7 @@ abbrev pub chosen : State.State → Value → List CoreStmt → Option CoreStmt 
 chosen s v [] otherwise = otherwise
 chosen s v (c ∷ cs) otherwise = section_matching s v (out-CoreStmt c) (chosen s v cs otherwise)
 
+-- the section that was chosen
 abbrev pub section_work : Option CoreStmt → List Item
 section_work None = []
 section_work (Some body) = Execute body ∷ EndSwitch ∷ []
@@ -276,5 +301,6 @@ throw s (Owned n) =
     else quiet (next (Leave (Throw (length s.places)) ∷ []) (put (record s { places = s.places ++ record { owning = true; holds = held s n; within = None } ∷ [] }) n Null))
 throw s o = unless (uses s (value_of s o ∷ [])) s (stuck s)
 
+-- the trap `assert` where the condition does not hold
 abbrev pub check : State.State → Operand → Out
 check s o = if is_false (value_of s o) then stop s (Trapped trap.Assert) else quiet s

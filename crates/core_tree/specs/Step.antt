@@ -37,18 +37,23 @@ with_operands s os = record s { frame = record s.frame { operands = os } }
 abbrev pub take_two : State.State → (State.State → Operand → Operand → Out) → Out
 take_two s go = take_operand s (λ t b. take_operand t (λ u a. go u a b))
 
+-- `&&`: the second is evaluated where the first is true
 abbrev pub if_true : State.State → Operand → CoreExpr → Out
 if_true s o e = if is_false (value_of s o) then quiet (give s o) else quiet (next (Evaluate e ∷ []) s)
 
+-- `||`: the second is evaluated where the first is false
 abbrev pub if_false : State.State → Operand → CoreExpr → Out
 if_false s o e = if is_false (value_of s o) then quiet (next (Evaluate e ∷ []) s) else quiet (give s o)
 
+-- `?:`: one of two is evaluated
 abbrev pub one_of : State.State → Operand → CoreExpr → CoreExpr → Out
 one_of s o a b = if is_false (value_of s o) then quiet (next (Evaluate b ∷ []) s) else quiet (next (Evaluate a ∷ []) s)
 
+-- `??`: the second is evaluated where the first is null
 abbrev pub if_null : State.State → Operand → CoreExpr → Out
 if_null s o e = if is_null (value_of s o) then quiet (next (Evaluate e ∷ []) s) else quiet (give s o)
 
+-- `if`: one of two is done
 abbrev pub branch : State.State → Operand → CoreStmt → CoreStmt → Out
 branch s o a b = if is_false (value_of s o) then quiet (next (Execute b ∷ []) s) else quiet (next (Execute a ∷ []) s)
 
@@ -57,6 +62,7 @@ abbrev pub end_statement : State.State → List ℕ → List ℕ → Out
 end_statement s outer [] = quiet (record s { frame = record s.frame { temporaries = outer } })
 end_statement s outer (n ∷ ns) = quiet (give_up (next (EndStatement outer ∷ []) (record s { frame = record s.frame { temporaries = ns } })) n)
 
+-- the places of a block are given up, one in a step
 abbrev pub end_block : State.State → List ℕ → Out
 end_block s [] = quiet s
 end_block s (n ∷ ns) = quiet (give_up (next (EndBlock ns ∷ []) s) n)
@@ -65,10 +71,12 @@ end_block s (n ∷ ns) = quiet (give_up (next (EndBlock ns ∷ []) s) n)
 abbrev pub clear : State.State → ℕ → VType → Out
 clear s n kind = if is_owning_place s n then quiet (give_up s n) else quiet (put s n (zero_of kind.shape))
 
+-- the parameters are given up, one in a step, and then the caller goes on
 abbrev pub end_call : Core → State.State → List ℕ → Frame → Out
 end_call core s [] caller = quiet (return_to core s caller)
 end_call core s (n ∷ ns) caller = quiet (give_up (next (EndCall ns caller ∷ []) s) n)
 
+-- the next cell is copied
 abbrev pub copy_cells : Core → State.State → List (ℕ × ℕ) → Out
 copy_cells core s [] = quiet s
 copy_cells core s (p ∷ ps) = copy_cell core (next (CopyCells ps ∷ []) s) p.0 p.1
@@ -82,6 +90,7 @@ end_code s (o ∷ os) = code_of (value_of s o)
     code_of (Number z) = stop s (Ended z)
     code_of v = stuck s
 
+-- the arguments of `main`, where it takes them
 abbrev pub arguments_for : List CoreParameter → List Operand
 arguments_for [] = []
 arguments_for (p ∷ ps) = Given (Arguments 0 1) ∷ []
@@ -91,6 +100,7 @@ abbrev pub call_main : Core → State.State → Option CoreMethod → Out
 call_main core s None = stuck s
 call_main core s (Some m) = call_method core s [] Null (arguments_for m.locals.parameters) core.start
 
+-- the next item is left
 abbrev pub leave_next : Core → State.State → State.Way → List Item → Out
 leave_next core s way [] = stuck s
 leave_next core s way (item ∷ rest) = leave core (record s { work = rest }) way item
@@ -155,6 +165,7 @@ do_item core s Check = take_operand s check
 do_item core s Start = call_main core s (slice_get core.methods core.start)
 do_item core s EndMain = end_code s s.frame.operands
 
+-- the first item is taken off the work and done
 abbrev pub next_of : Core → State.State → List Item → Out
 next_of core s [] = stuck s
 next_of core s (item ∷ rest) = do_item core (record s { work = rest }) item
@@ -169,6 +180,7 @@ meaning core =
 
 -- The opening
 
+-- the types of the static fields
 abbrev pub static_types : List CorePlace → List VType
 static_types [] = []
 static_types (p ∷ ps) = p.kind ∷ static_types ps

@@ -20,12 +20,14 @@ use Rattle.core_tree.specs.Invoke.{with_found, call_method, class_of, member_in}
 
 -- Identity
 
+-- two delegates do the same: the same method, or the lambda at the same place of the text
 abbrev pub same_code : Code → Code → Bool
 same_code (Method a) (Method b) = a == b
 same_code Resume Resume = true
 same_code (Body l body at) (Body m other to) = if at.file == to.file then (if at.start == to.start then at.«end» == to.«end» else false) else false
 same_code _ _ = false
 
+-- the same thing, or null twice
 abbrev pub same_target : Value → Value → Bool
 same_target Null Null = true
 same_target (Thing t) (Thing u) = t == u
@@ -43,6 +45,7 @@ same_reference v w = same_target v w
 abbrev pub stands : State.State → VType → ℕ → Value
 stands s kind n = if is_struct kind.shape then Cells n else held s n
 
+-- the value in a place is given
 abbrev pub read : State.State → VType → Found → Out
 read s kind f = with_found s f (λ n. quiet (give s (Given (stands s kind n))))
 
@@ -50,6 +53,7 @@ read s kind f = with_found s f (λ n. quiet (give s (Given (stands s kind n))))
 abbrev pub change_into : VType → Change
 change_into kind = if kind.owned then into_owner kind.shape false else change.Keep
 
+-- an owned getter gives a copy
 abbrev pub copied_if : Bool → VType → Out → Out
 copied_if true kind o = (next (ChangeTop (change_into (record kind { owned = true })) kind ∷ []) o.0, o.1)
 copied_if false kind o = o
@@ -59,6 +63,7 @@ abbrev pub property_reached : Core → State.State → Value → ℕ → Option 
 property_reached core s v n None = Some n
 property_reached core s v n (Some slot) = member_in (class_of core s v) slot
 
+-- the property that was reached
 abbrev pub property_at : Core → Option ℕ → Option CoreProperty
 property_at core None = None
 property_at core (Some n) = slice_get core.properties n
@@ -73,14 +78,17 @@ get_by core s p v (access.Automatic cell) = copied_if p.is_get_owned p.kind (rea
 get_by core s p v (access.Written m) = call_method core s (used s v ∷ []) v [] m
 get_by core s p v access.Missing = no_property s v
 
+-- the same, where the property is there
 abbrev pub get_in : Core → State.State → Value → Option CoreProperty → Out
 get_in core s v None = no_property s v
 get_in core s v (Some p) = get_by core s p v p.getter
 
+-- the same of the property that the receiver's class has
 abbrev pub get_reached : Core → State.State → Value → ℕ → Option CoreProperty → Out
 get_reached core s v n None = no_property s v
 get_reached core s v n (Some p) = get_in core s v (property_at core (property_reached core s v n p.get_slot))
 
+-- a property is read
 abbrev pub get_property : Core → State.State → Value → ℕ → Out
 get_property core s v n = get_reached core s v n (slice_get core.properties n)
 
@@ -116,10 +124,12 @@ same_bytes s Null _ = false
 same_bytes s v Null = false
 same_bytes s v w = bytes_equal (bytes_of s v) (bytes_of s w)
 
+-- two numbers are the same
 abbrev pub same_numbers : Value → Value → Bool
 same_numbers (Number a) (Number b) = int_equal a b
 same_numbers _ _ = false
 
+-- two values of a shape are the same
 abbrev pub same_value : State.State → Shape → Value → Value → Bool
 same_value s shape.Text v w = same_bytes s v w
 same_value s shape.Bool v w = same_numbers v w
@@ -127,6 +137,7 @@ same_value s (shape.Int k) v w = same_numbers v w
 same_value s (shape.Enum n) v w = same_numbers v w
 same_value s _ v w = same_reference v w
 
+-- which of the values a comparison reads
 abbrev pub texts_read : Shape → List Value → List Value
 texts_read shape.Text vs = vs
 texts_read _ vs = []
@@ -137,6 +148,7 @@ set_automatic s p number v cell new =
     if same_value s p.kind.shape new (held s cell) then quiet s
     else quiet (next (Push (At cell) ∷ Push (Given new) ∷ ChangeTop (change_into p.kind) p.kind ∷ Store ∷ Notify v number ∷ []) s)
 
+-- the same, where the cell is found
 abbrev pub set_found : State.State → CoreProperty → ℕ → Value → Value → Found → Out
 set_found s p number v new f =
     with_found s f (λ cell. unless (reads s (texts_read p.kind.shape (new ∷ held s cell ∷ []))) s (set_automatic s p number v cell new))
@@ -147,14 +159,17 @@ set_by core s p number v new (access.Automatic cell) = set_found s p number v (v
 set_by core s p number v new (access.Written m) = call_method core (next (Notify v number ∷ []) s) (used s v ∷ []) v (new ∷ []) m
 set_by core s p number v new access.Missing = no_property s v
 
+-- the same, where the property is there
 abbrev pub set_in : Core → State.State → ℕ → Value → Operand → Option CoreProperty → Out
 set_in core s number v new None = no_property s v
 set_in core s number v new (Some p) = set_by core s p number v new p.setter
 
+-- the same of the property that the receiver's class has
 abbrev pub set_reached : Core → State.State → Value → ℕ → Operand → Option CoreProperty → Out
 set_reached core s v n new None = no_property s v
 set_reached core s v n new (Some p) = set_in core s n v new (property_at core (property_reached core s v n p.set_slot))
 
+-- a property is set
 abbrev pub set_property : Core → State.State → Value → ℕ → Operand → Out
 set_property core s v n new = set_reached core s v n new (slice_get core.properties n)
 
@@ -168,10 +183,12 @@ abbrev pub cells_taken : State.State → List VType → ℕ → List Place
 cells_taken s [] n = []
 cells_taken s (kind ∷ kinds) n = record { owning = is_owning kind; holds = held s n; within = None } ∷ cells_taken s kinds (suc n)
 
+-- these cells are zero or null
 abbrev pub zeroed : State.State → List VType → ℕ → State.State
 zeroed s [] n = s
 zeroed s (kind ∷ kinds) n = zeroed (put s n (zero_of kind.shape)) kinds (suc n)
 
+-- the cells of a struct move into owned temporaries
 abbrev pub take_struct : State.State → List VType → ℕ → State.State
 take_struct s kinds n =
     let taken : State.State = add_places (zeroed s kinds n) (cells_taken s kinds n) in
@@ -181,6 +198,7 @@ take_struct s kinds n =
 abbrev pub take_at : Core → State.State → VType → ℕ → State.State
 take_at core s kind n = if is_struct kind.shape then take_struct s (cells_of core kind) n else give_owned (put s n Null) (held s n)
 
+-- moves what a target holds into an owned temporary
 abbrev pub take : Core → State.State → VType → Operand → Out
 take core s kind target = with_found s (find core s target) (λ n. quiet (take_at core s kind n))
 

@@ -1,5 +1,6 @@
 // The declarations of a program, from which alone its interface can be told.
 
+use crate::lambda::Mode;
 use sqlite_items::Items;
 use vala_types::VType;
 use vg_base::Span;
@@ -60,7 +61,12 @@ pub struct CoreDecl {
     pub c_header: Items<Items<u8>>,
     pub access: Access,
     pub modifiers: Modifiers,
-    /// Its type, or that of its result.
+    /// Of a parameter: how it gets what its argument gives.
+    pub mode: Mode,
+    /// Of a setter: whether it is `set`, and whether it is `construct`.
+    pub is_set: bool,
+    pub is_construct: bool,
+    /// Its type, or that of its result. Of a getter it owns where `owned` is written.
     pub value_type: VType,
     /// Bases, in the order in which they are written.
     pub bases: Items<VType>,

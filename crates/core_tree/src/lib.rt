@@ -20,7 +20,7 @@ pub use operation::Operation;
 pub use program::Core;
 pub use tree::{CoreExpr, CoreStmt};
 pub use types::{
-    Accessor, ClassInfo, CoreMethod, CorePlace, CoreProperty, CoreSignal, CoreType, Given, Making,
-    Slot, StructInfo,
+    Accessor, ClassInfo, CoreMethod, CorePlace, CoreProperty, CoreSignal, CoreType, DelegateInfo,
+    Given, Making, Slot, StructInfo,
 };
 pub use values::{Arithmetic, Callee, Comparison, LoopCall, Part, TextCall};

@@ -1,6 +1,6 @@
 // The tables of a core: methods, types, properties, signals, static fields.
 
-use crate::lambda::Locals;
+use crate::lambda::{CoreParameter, Locals};
 use crate::tree::{CoreExpr, CoreStmt};
 use sqlite_items::Items;
 use vala_types::VType;
@@ -70,12 +70,21 @@ pub struct StructInfo {
     pub cells: Items<VType>,
 }
 
+/// A delegate.
+#[derive(Drop)]
+pub struct DelegateInfo {
+    pub parameters: Items<CoreParameter>,
+    pub result: VType,
+}
+
 /// A type of the program, by the number that a shape has.
 #[derive(Drop)]
 pub enum CoreType {
     Class(ClassInfo),
     Struct(StructInfo),
-    /// An interface, enum, error domain or delegate, of which a run needs nothing.
+    /// A delegate: what it takes and gives. A run needs nothing of it.
+    Delegate(DelegateInfo),
+    /// An interface, enum or error domain, of which a run needs nothing.
     Other,
 }
 
