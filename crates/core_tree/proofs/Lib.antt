@@ -13,3 +13,4 @@ pub mod Activations
 pub mod PlaceLaws
 pub mod Shop
 pub mod Passing
+pub mod Gone
