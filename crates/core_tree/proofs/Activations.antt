@@ -57,7 +57,7 @@ callback body =
 
 -- class W : Object { public async void go (string a, string b) { yield; } }
 -- void main () { W w = new W (); string s = "s"; w.go.begin (s, s + "t"); }
-abbrev copied_arguments : Core
+abbrev pub copied_arguments : Core
 copied_arguments =
     program (object_class ∷ class 1 [] [] None ∷ []) (
     method (frame [] (object 1 ∷ text ∷ []) void) (block (of 0 (object 1) ∷ of 1 text ∷ []) (
@@ -76,7 +76,7 @@ unfolding Rattle.core_tree.specs.declared.tree.CoreExpr.TheViews.out-CoreStmt de
 copied_arguments_row = record { says = refl; ends = refl; lives = refl }
 
 -- void main () { MainLoop l = new MainLoop (); { int k = 3; Idle.add (() => { Source.remove (1); print ("in\n"); print ("%d\n", k); return true; }); } l.run (); }
-abbrev removes_itself : Core
+abbrev pub removes_itself : Core
 removes_itself =
     program (object_class ∷ []) (
     method (frame [] (main_loop ∷ object 0 ∷ []) void) (block (of 0 main_loop ∷ []) (
@@ -109,7 +109,7 @@ removes_itself_row = record { says = refl; ends = refl; lives = refl }
 --   public async void outer () { int x = yield this.inner (new T ("arg")); print ("got %d\n", x); }
 -- }
 -- void main () { MainLoop l = new MainLoop (); W w = new W (); w.outer.begin ((o, r) => { l.quit (); }); l.run (); }
-abbrev waits_for_inner : Core
+abbrev pub waits_for_inner : Core
 waits_for_inner =
     program (object_class ∷ told_type ∷ class 2 [] [] None ∷ []) (
     method (frame [] (object 0 ∷ object 2 ∷ []) void) (
@@ -138,7 +138,7 @@ waits_for_inner_row = record { says = refl; ends = refl; lives = refl }
 
 -- class W : Object { public async T go (T a) { return new T ("res"); } ~W () { print ("~W\n"); } }
 -- void main () { MainLoop l = new MainLoop (); { W w = new W (); w.go.begin (new T ("arg"), (o, r) => { print ("cb\n"); l.quit (); }); } l.run (); print ("end\n"); }
-abbrev result_not_taken : Core
+abbrev pub result_not_taken : Core
 result_not_taken =
     program (object_class ∷ told_type ∷ class 2 [] [] (Some 4) ∷ []) (
     method (frame [] (object 0 ∷ object 2 ∷ []) void) (

@@ -35,7 +35,7 @@ prints format rest = block [] (say format (local 0 int ∷ []) ∷ rest)
 abbrev emit : ℕ → CoreStmt
 emit x = run (apply (op.Emit 1) (s ∷ keep int (number x) ∷ []))
 
-abbrev disconnected : Core
+abbrev pub disconnected : Core
 disconnected =
     with_signals (
     program (object_class ∷ class 1 [] [] None ∷ []) (
@@ -67,7 +67,7 @@ p_n = apply (op.Property 0) (p ∷ [])
 abbrev said_n : CoreExpr
 said_n = e.Lambda (record { locals = frame [] [] void; target = bound.Nothing; is_owning = true }) (block [] (say (codes "n") [] ∷ [])) here
 
-abbrev notified : Core
+abbrev pub notified : Core
 notified =
     with_signals (with_properties (
     program (object_class ∷ class 1 (int ∷ []) (set (field this 0 int) (keep int (number 3)) ∷ []) None ∷ []) (

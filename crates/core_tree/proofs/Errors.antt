@@ -35,7 +35,7 @@ make bytes = call 3 (keep (unowned shape.Text) (literal bytes) ∷ [])
 abbrev empty : CoreStmt
 empty = st.Empty here
 
-abbrev carried_error : Core
+abbrev pub carried_error : Core
 carried_error =
     program (object_class ∷ class 1 (text ∷ []) [] (Some 2) ∷ []) (
     method (frame [] (error ∷ []) void) (block [] (

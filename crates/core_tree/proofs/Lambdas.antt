@@ -55,7 +55,7 @@ call_delegate x = run (apply (op.Call callee.Delegate) (x ∷ []))
 abbrev b : CoreExpr
 b = local 0 box
 
-abbrev shared_variable : Core
+abbrev pub shared_variable : Core
 shared_variable =
     program (object_class ∷ class 1 (act ∷ act ∷ []) [] None ∷ []) (
     method (frame [] (box ∷ []) void) (block (of 0 box ∷ []) (

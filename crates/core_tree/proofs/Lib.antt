@@ -14,3 +14,4 @@ pub mod PlaceLaws
 pub mod Shop
 pub mod Passing
 pub mod Gone
+pub mod Tidiness

@@ -90,7 +90,7 @@ begin n = run (apply (op.Begin 2 true true) (var here_at n w_type ∷ moved (own
 abbrev new_w : List ℕ → CoreExpr
 new_w bytes = moved w_type (new 1 1 (keep (unowned shape.Text) (literal bytes) ∷ []))
 
-abbrev side_by_side : Core
+abbrev pub side_by_side : Core
 side_by_side =
     program (object_class ∷ class 1 (text ∷ []) [] None ∷ []) (
     method (frame [] (object 0 ∷ []) void) (
@@ -131,7 +131,7 @@ second_script = record { says = refl; ends = refl; lives = refl }
 
 -- class W : Object { public async void go () { print ("in\n"); yield; print ("never\n"); } }
 -- void main () { MainLoop l = new MainLoop (); W w = new W (); w.go.begin (); l.run (); }
-abbrev never_completes : Core
+abbrev pub never_completes : Core
 never_completes =
     program (object_class ∷ class 1 [] [] None ∷ []) (
     method (frame [] (main_loop ∷ w_type ∷ []) void) (block (of 0 main_loop ∷ of 1 w_type ∷ []) (
@@ -174,7 +174,7 @@ capturing n body =
 abbrev timeout : ℕ → CoreExpr → CoreStmt
 timeout ms f = run (apply (op.Loop loop.TimeoutAdd) (number ms ∷ f ∷ []))
 
-abbrev due_times : Core
+abbrev pub due_times : Core
 due_times =
     program (object_class ∷ []) (
     method (frame [] (object 0 ∷ []) void) (

@@ -43,7 +43,7 @@ says bytes = method (frame [] [] void) (block [] (run (said bytes) ∷ []))
 abbrev begins : ℕ → List ℕ → CoreMethod
 begins base bytes = creation (frame [] [] void) (making.Base base []) (block [] (run (said bytes) ∷ []))
 
-abbrev three_classes : Core
+abbrev pub three_classes : Core
 three_classes =
     program (
     object_class

@@ -50,7 +50,7 @@ text_property cell is_construct =
 -- class A : Object { public string n { get; set construct; } public A (T t) { Object (n: t.n + "!"); print ("A rest %s\n", t.n); } }
 -- class B : A { public B () { base (new T ("arg")); print ("B rest\n"); } }
 -- void main () { B b = new B (); print ("%s\n", b.n); }
-abbrev temporaries_of_base : Core
+abbrev pub temporaries_of_base : Core
 temporaries_of_base =
     with_signals (with_properties (
     program (object_class ∷ told_type ∷ derived 2 0 (text ∷ []) 0 None (0 ∷ []) ∷ derived 3 2 (text ∷ []) 1 None [] ∷ []) (
@@ -75,7 +75,7 @@ temporaries_of_base_row = record { says = refl; ends = refl; lives = refl }
 -- class A : Object { public A (T t) throws E { print ("A rest\n"); throw new E.BAD ("x"); } ~A () { print ("~A\n"); } }
 -- class B : A { public B () throws E { base (new T ("arg")); print ("B rest\n"); } ~B () { print ("~B\n"); } }
 -- void main () { try { B b = new B (); } catch (E e) { print ("%s\n", e.message); } }
-abbrev making_throws : Core
+abbrev pub making_throws : Core
 making_throws =
     program (object_class ∷ told_type ∷ derived 2 0 [] 0 (Some 5) [] ∷ derived 3 2 [] 0 (Some 6) [] ∷ []) (
     method (frame [] (object 3 ∷ error_type ∷ []) void) (block [] (
@@ -99,7 +99,7 @@ making_throws_row = record { says = refl; ends = refl; lives = refl }
 
 -- class S : Object { public signal void bye (); ~S () { print ("in\n"); this.bye (); print ("out\n"); } }
 -- void main () { S s = new S (); s.bye.connect (() => { print ("heard\n"); }); }
-abbrev emission_while_ending : Core
+abbrev pub emission_while_ending : Core
 emission_while_ending =
     with_signals (
     program (object_class ∷ class 1 [] [] (Some 2) ∷ []) (
@@ -120,7 +120,7 @@ emission_while_ending_row = record { says = refl; ends = refl; lives = refl }
 
 -- class P : Object { public string n { get; set; } }
 -- void main () { P p = new P (); p.n = "a" + "b"; print ("%s\n", p.n); }
-abbrev fresh_property : Core
+abbrev pub fresh_property : Core
 fresh_property =
     with_signals (with_properties (
     program (object_class ∷ class 1 (text ∷ []) [] None ∷ []) (
@@ -147,7 +147,7 @@ p_n = apply (op.Property 0) (local 0 (object 1) ∷ [])
 abbrev step_of : Bool → CoreExpr
 step_of is_postfix = apply (op.Increment arithmetic.Add kind.Int32 is_postfix true) (e.PlaceAndValue p_n here ∷ [])
 
-abbrev written_property : Core
+abbrev pub written_property : Core
 written_property =
     with_signals (with_properties (
     program (object_class ∷ class 1 (int ∷ []) [] None ∷ []) (
@@ -177,7 +177,7 @@ written_property_row = record { says = refl; ends = refl; lives = refl }
 -- class P : Object { public int n { get { return 1; } set { held = null; print ("set\n"); } } }
 -- P? held;
 -- void main () { held = new P (); held.n = 2; print ("end\n"); }
-abbrev setter_ends_object : Core
+abbrev pub setter_ends_object : Core
 setter_ends_object =
     with_signals (with_properties (
     program (object_class ∷ class 1 [] [] None ∷ []) (
@@ -205,7 +205,7 @@ pair = owned (shape.Struct 1)
 abbrev member : ℕ → ℕ → CoreExpr
 member l n = apply (op.Member n text) (local l pair ∷ [])
 
-abbrev struct_assigned : Core
+abbrev pub struct_assigned : Core
 struct_assigned =
     program (object_class ∷ declared.Struct (record { cells = text ∷ text ∷ [] }) ∷ []) (
     method (frame [] (pair ∷ pair ∷ []) void) (block (of 0 pair ∷ of 1 pair ∷ []) (

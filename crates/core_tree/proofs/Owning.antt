@@ -19,7 +19,7 @@ foo = object 1
 -- Foo? held;
 -- void f (Foo x) { held = null; x.go (); }
 -- void main () { held = new Foo (); f (held); }
-abbrev unowned_argument : Core
+abbrev pub unowned_argument : Core
 unowned_argument =
     program (object_class ∷ class 1 [] [] None ∷ []) (
     method (frame [] [] void) (block [] (
@@ -59,14 +59,14 @@ nodes up p =
     ∷ []
     ) []
 
-abbrev cycle : Core
+abbrev pub cycle : Core
 cycle = nodes foo (changed change.AddOwner foo (local 0 foo))
 
 pub cycle_row : Row cycle quiet_world 150 (Made Object ∷ Made Object ∷ []) (Ended (pos 0)) (record { kind = Object; serial = 1; owners = 1 } ∷ record { kind = Object; serial = 2; owners = 1 } ∷ [])
 unfolding Rattle.core_tree.specs.declared.tree.CoreExpr.TheViews.out-CoreStmt denote.Hole.Carrier.out Rattle.core_tree.specs.declared.tree.CoreExpr.TheBlock.shown-the_row-CoreStmt-3 denote.Hole.Carrier.shown denote.Hole.Carrier.hidden Rattle.core_tree.specs.declared.tree.CoreExpr.TheViews.out-CoreExpr Rattle.std.specs.Fmt.digits
 cycle_row = record { says = refl; ends = refl; lives = refl }
 
-abbrev weak_cycle : Core
+abbrev pub weak_cycle : Core
 weak_cycle = nodes (unowned (shape.Class 1)) (keep (unowned (shape.Class 1)) (local 0 foo))
 
 pub weak_cycle_row : Row weak_cycle quiet_world 200 (Made Object ∷ Made Object ∷ line (codes "gone") ∷ line (codes "gone") ∷ Gone 2 ∷ Gone 1 ∷ []) (Ended (pos 0)) ([])
@@ -74,7 +74,7 @@ unfolding Rattle.core_tree.specs.declared.tree.CoreExpr.TheViews.out-CoreStmt de
 weak_cycle_row = record { says = refl; ends = refl; lives = refl }
 
 -- void main () { unowned string s = ""; { string t = "ab".substring (0, 1); s = t; } print ("%s\n", s); }
-abbrev dangling_text : Core
+abbrev pub dangling_text : Core
 dangling_text =
     program (object_class ∷ []) (
     method (frame [] (unowned shape.Text ∷ text ∷ []) void) (block (of 0 (unowned shape.Text) ∷ []) (
@@ -96,7 +96,7 @@ dangling_text_row = record { says = refl; ends = refl; lives = refl }
 
 -- void take (owned string? a, owned string? b) { print ("%s %s\n", a, b); }
 -- void main () { string? s = "x"; take ((owned) s, (owned) s); }
-abbrev moved_twice : Core
+abbrev pub moved_twice : Core
 moved_twice =
     program (object_class ∷ []) (
     method (frame [] (text ∷ []) void) (block (of 0 text ∷ []) (

@@ -44,7 +44,7 @@ list xs = moved numbers_type (apply (op.List numbers) xs)
 abbrev a : CoreExpr
 a = static 0 numbers_type
 
-abbrev appended_behind : Core
+abbrev pub appended_behind : Core
 appended_behind =
     program (object_class ∷ []) (
     method (frame [] [] void) (block [] (
@@ -72,7 +72,7 @@ x_of l = apply (op.Member 0 int) (local l pair ∷ [])
 abbrev n_of : ℕ → CoreExpr
 n_of l = apply (op.Member 1 text) (local l pair ∷ [])
 
-abbrev struct_moved : Core
+abbrev pub struct_moved : Core
 struct_moved =
     program (object_class ∷ declared.Struct (record { cells = int ∷ text ∷ [] }) ∷ []) (
     method (frame [] (pair ∷ pair ∷ []) void) (block (of 0 pair ∷ of 1 pair ∷ []) (
@@ -95,7 +95,7 @@ struct_moved_row = record { says = refl; ends = refl; lives = refl }
 abbrev out_place : VType → CoreParameter
 out_place type = record { kind = type; mode = mode.Out }
 
-abbrev emptied_first : Core
+abbrev pub emptied_first : Core
 emptied_first =
     program (object_class ∷ []) (
     method (frame [] (text ∷ []) void) (block (of 0 text ∷ []) (
@@ -131,7 +131,7 @@ ref_program locals body =
     ∷ []
     ) []
 
-abbrev stored_through : Core
+abbrev pub stored_through : Core
 stored_through =
     ref_program (c_type ∷ []) (block (of 0 c_type ∷ []) (
     set (local 0 c_type) (moved c_type (new 1 1 []))
@@ -144,7 +144,7 @@ pub stored_through_row : Row stored_through quiet_world 200 (Made Object ∷ lin
 unfolding Rattle.core_tree.specs.declared.tree.CoreExpr.TheViews.out-CoreStmt denote.Hole.Carrier.out Rattle.core_tree.specs.declared.tree.CoreExpr.TheBlock.shown-the_row-CoreStmt-3 denote.Hole.Carrier.shown denote.Hole.Carrier.hidden Rattle.core_tree.specs.declared.tree.CoreExpr.TheViews.out-CoreExpr Rattle.std.specs.Fmt.digits
 stored_through_row = record { says = refl; ends = refl; lives = refl }
 
-abbrev null_before_dead : Core
+abbrev pub null_before_dead : Core
 null_before_dead =
     ref_program (unowned (shape.Class 1) ∷ c_type ∷ c_type ∷ []) (block (of 2 c_type ∷ []) (
     set (local 0 (unowned (shape.Class 1))) (keep (unowned (shape.Class 1)) null)
@@ -172,7 +172,7 @@ with_slot n base cells initials destructor f =
 abbrev ends_with : List ℕ → List CoreStmt
 ends_with format = say format (apply (op.Call (callee.Virtual 0)) (this ∷ []) ∷ []) ∷ []
 
-abbrev virtual_while_ending : Core
+abbrev pub virtual_while_ending : Core
 virtual_while_ending =
     program (object_class ∷ with_slot 1 0 [] [] 4 3 ∷ with_slot 2 1 (text ∷ []) (set (field this 0 text) (copied (literal (codes "b"))) ∷ []) 6 5 ∷ []) (
     method (frame [] (object 2 ∷ []) void) (block (of 0 (object 2) ∷ []) (set (local 0 (object 2)) (moved (object 2) (new 2 2 [])) ∷ []))
@@ -215,7 +215,7 @@ s_type = object 2
 abbrev hit : CoreStmt
 hit = run (apply (op.Emit 1) (var (held_by 0) 0 s_type ∷ []))
 
-abbrev disconnects_itself : Core
+abbrev pub disconnects_itself : Core
 disconnects_itself =
     with_signals (
     program (object_class ∷ told_type ∷ class 2 [] [] None ∷ []) (

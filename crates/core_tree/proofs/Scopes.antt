@@ -42,7 +42,7 @@ call_it x = run (apply (op.Call callee.Delegate) (x ∷ []))
 
 -- void f (owned T p) { T l = new T ("local"); T c = new T ("captured"); Act a = () => { print ("%s\n", c.n); }; a (); }
 -- void main () { f (new T ("param")); }
-abbrev end_of_call : Core
+abbrev pub end_of_call : Core
 end_of_call =
     program (object_class ∷ told_type ∷ []) (
     method (frame [] [] void) (block [] (run (call 3 (new_told (codes "param") ∷ [])) ∷ []))
@@ -65,7 +65,7 @@ end_of_call_row = record { says = refl; ends = refl; lives = refl }
 
 -- Act f (owned string s, string t) { return () => { print ("%s%s\n", s, t); }; }
 -- void main () { string x = "x"; Act a = f ("a" + "b", x); a (); }
-abbrev captured_parameters : Core
+abbrev pub captured_parameters : Core
 captured_parameters =
     program (object_class ∷ []) (
     method (frame [] (text ∷ act ∷ []) void) (block (of 0 text ∷ of 1 act ∷ []) (
@@ -104,7 +104,7 @@ c_type = object 1
 abbrev this_through : CoreExpr
 this_through = apply (op.This (from.Through (at_target 0))) []
 
-abbrev this_of_gone_scope : Core
+abbrev pub this_of_gone_scope : Core
 this_of_gone_scope =
     program (object_class ∷ class 1 (act ∷ []) [] None ∷ []) (
     method (frame [] (c_type ∷ []) void) (block (of 0 c_type ∷ []) (
@@ -142,7 +142,7 @@ this_of_gone_scope_row = record { says = refl; ends = refl; lives = refl }
 --   c.a (); print ("end\n");
 -- }
 -- (the object is captured too, so it stands in the outer scope)
-abbrev outer_through_gone : Core
+abbrev pub outer_through_gone : Core
 outer_through_gone =
     program (object_class ∷ class 1 (act ∷ act ∷ []) [] None ∷ []) (
     method (frame [] (object 0 ∷ int ∷ object 0 ∷ []) void) (
@@ -184,7 +184,7 @@ outer_through_gone_row = record { says = refl; ends = refl; lives = refl }
 -- void each (Act a) { a (); }
 -- class C : Object { public void say () { print ("say\n"); } ~C () { print ("in\n"); each (() => { this.say (); }); print ("out\n"); } }
 -- void main () { C c = new C (); }
-abbrev lambda_while_ending : Core
+abbrev pub lambda_while_ending : Core
 lambda_while_ending =
     program (object_class ∷ class 1 [] [] (Some 2) ∷ []) (
     method (frame [] (c_type ∷ []) void) (block (of 0 c_type ∷ []) (set (local 0 c_type) (moved c_type (new 1 1 [])) ∷ []))
@@ -208,7 +208,7 @@ lambda_while_ending_row = record { says = refl; ends = refl; lives = refl }
 -- class C : Object { public Act? a; }
 -- int drop (C c) { c.a = null; return 1; }
 -- void main () { C c = new C (); { int n = 5; c.a = (x) => { print ("in\n"); print ("%d\n", n); }; } c.a (drop (c)); }
-abbrev emptied_by_argument : Core
+abbrev pub emptied_by_argument : Core
 emptied_by_argument =
     program (object_class ∷ class 1 (act ∷ []) [] None ∷ []) (
     method (frame [] (c_type ∷ object 0 ∷ []) void) (block (of 0 c_type ∷ []) (

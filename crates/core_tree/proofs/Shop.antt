@@ -277,7 +277,7 @@ main = method (frame [] (object 0 ∷ product ∷ texts_type ∷ []) int) (
     ) here
     )
 
-abbrev shop : Core
+abbrev pub shop : Core
 shop =
     with_signals (with_properties (
     program (object_class ∷ declared.Other ∷ type_2 ∷ type_3 ∷ type_4 ∷ [])

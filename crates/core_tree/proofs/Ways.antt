@@ -36,7 +36,7 @@ no_statement = st.Empty here
 abbrev make_told : List ℕ → CoreExpr
 make_told bytes = keep lent (call 3 (by_text bytes ∷ []))
 
-abbrev temporaries_of_error : Core
+abbrev pub temporaries_of_error : Core
 temporaries_of_error =
     told_program (
     st.Try (block [] (run (call 4 (make_told (codes "a") ∷ make_told (codes "b") ∷ make_told (codes "c") ∷ [])) ∷ []))
@@ -60,7 +60,7 @@ temporaries_of_error_row = record { says = refl; ends = refl; lives = refl }
 -- int len (T t) { return t.n.length; }
 -- int f () { T l = new T ("local"); return len (new T ("temp")); }
 -- void main () { print ("%d\n", f ()); }
-abbrev result_before_locals : Core
+abbrev pub result_before_locals : Core
 result_before_locals =
     told_program (say (codes "%d") (call 4 [] ∷ []) ∷ []) [] (
     method (frame (by_value lent ∷ []) [] int) (block [] (
@@ -79,7 +79,7 @@ unfolding Rattle.core_tree.specs.declared.tree.CoreExpr.TheViews.out-CoreStmt de
 result_before_locals_row = record { says = refl; ends = refl; lives = refl }
 
 -- void main () { string a = "x"; switch (a + "y") { case "xy": print ("hit\n"); break; default: print ("miss\n"); break; } }
-abbrev chosen_by_text : Core
+abbrev pub chosen_by_text : Core
 chosen_by_text =
     program (object_class ∷ []) (
     method (frame [] (text ∷ []) void) (block (of 0 text ∷ []) (
@@ -102,7 +102,7 @@ chosen_by_text_row = record { says = refl; ends = refl; lives = refl }
 -- T g () { held = null; print ("cleared\n"); return new T ("g"); }
 -- void f (owned T a, owned T b) { print ("%s %s\n", a.n, b.n); }
 -- void main () { held = new T ("h"); f (held, g ()); }
-abbrev owned_arguments : Core
+abbrev pub owned_arguments : Core
 owned_arguments =
     program (object_class ∷ told_type ∷ []) (
     method (frame [] [] void) (block [] (
@@ -133,7 +133,7 @@ abbrev list_of : List (List ℕ) → List CoreExpr
 list_of [] = []
 list_of (b ∷ bs) = copied (literal b) ∷ list_of bs
 
-abbrev array_replaced : Core
+abbrev pub array_replaced : Core
 array_replaced =
     program (object_class ∷ []) (
     method (frame [] (texts_type ∷ text ∷ []) void) (block (of 0 texts_type ∷ []) (
@@ -160,7 +160,7 @@ array_replaced_row = record { says = refl; ends = refl; lives = refl }
 abbrev throw_new : ℤ → List ℕ → CoreStmt
 throw_new code bytes = st.Throw (moved error_type (apply (op.NewError 8 code bytes) [])) here
 
-abbrev finally_throws : Core
+abbrev pub finally_throws : Core
 finally_throws =
     program (object_class ∷ []) (
     method (frame [] (error_type ∷ []) void) (block [] (
@@ -183,7 +183,7 @@ finally_throws_row = record { says = refl; ends = refl; lives = refl }
 
 -- string f () { string s = "a"; try { return s; } finally { s = "b"; print ("fin\n"); } }
 -- void main () { print ("%s\n", f ()); }
-abbrev result_through_finally : Core
+abbrev pub result_through_finally : Core
 result_through_finally =
     program (object_class ∷ []) (
     method (frame [] [] void) (block [] (say (codes "%s") (call 1 [] ∷ []) ∷ []))

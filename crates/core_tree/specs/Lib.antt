@@ -16,4 +16,5 @@ pub mod Operations
 pub mod Statements
 pub mod Leaving
 pub mod Step
+pub mod Tidy
 pub mod Laws
