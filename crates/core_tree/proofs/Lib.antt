@@ -14,4 +14,5 @@ pub mod PlaceLaws
 pub mod Shop
 pub mod Passing
 pub mod Gone
+pub mod Figures
 pub mod Tidiness
