@@ -15,4 +15,5 @@ pub mod Shop
 pub mod Passing
 pub mod Gone
 pub mod Figures
+pub mod Mixed
 pub mod Tidiness
