@@ -1,12 +1,9 @@
 -- Numbers, formats and texts, and programs that trap or read.
-use Rattle.std.specs.Prelude.{◌≡◌, refl, ℕ, zero, suc, Bool, true, false, List, [], ◌∷◌, ◌++◌, Option, Some, None, codes, ℤ, pos}
-use Rattle.vg_base.specs.declared.event.Entry.TheVariants.{Pick, Wait}
-use Rattle.vg_base.specs.declared.event.Event.TheVariants.{Print, Made, Gone, Dispatch}
-use Rattle.vg_base.specs.declared.event.LiveRow.{LiveRow}
-use Rattle.vg_base.specs.declared.event.Stream.TheVariants.{Out}
-use Rattle.vg_base.specs.declared.event.ThingKind.TheVariants.{Object, Text, Array, Scope, Error, Activation}
+use Rattle.std.specs.Prelude.{◌≡◌, refl, true, false, [], ◌∷◌, codes, pos}
+use Rattle.vg_base.specs.declared.event.Event.TheVariants.{Made, Gone}
+use Rattle.vg_base.specs.declared.event.ThingKind.TheVariants.{Text, Array}
 use Rattle.vg_base.specs.declared.event.TrapKind.TheVariants as trap
-use Rattle.vg_base.specs.declared.event.VEnd.TheVariants.{Ended, Dead, Trapped, Waiting}
+use Rattle.vg_base.specs.declared.event.VEnd.TheVariants.{Ended, Trapped}
 use Rattle.vg_base.specs.World.{World}
 use Rattle.vala_types.specs.declared.types.IntKind.TheVariants as kind
 use Rattle.vala_types.specs.declared.types.Item.{Item}
@@ -15,27 +12,14 @@ use Rattle.vala_types.specs.declared.types.Shape.TheVariants as shape
 use Rattle.vala_types.specs.declared.types.VType.{VType}
 use Rattle.vala_types.specs.declared.owners.Change.TheVariants as change
 use Rattle.core_tree.specs.declared.program.Core.{Core}
-use Rattle.core_tree.specs.declared.lambda.Lambda.{Lambda}
-use Rattle.core_tree.specs.declared.lambda.Scope.{Scope as BlockScope}
-use Rattle.core_tree.specs.declared.lambda.ScopeAt.{ScopeAt}
-use Rattle.core_tree.specs.declared.lambda.Target.TheVariants as bound
-use Rattle.core_tree.specs.declared.lambda.ThisAt.TheVariants as from
-use Rattle.core_tree.specs.declared.lambda.Via.TheVariants as via
 use Rattle.core_tree.specs.declared.operation.Operation.TheVariants as op
 use Rattle.core_tree.specs.declared.tree.CoreExpr.{CoreExpr}
-use Rattle.core_tree.specs.declared.tree.CoreExpr.TheVariants as e
-use Rattle.core_tree.specs.declared.tree.CoreStmt.{CoreStmt}
 use Rattle.core_tree.specs.declared.tree.CoreStmt.TheVariants as st
-use Rattle.core_tree.specs.declared.types.Accessor.TheVariants as access
-use Rattle.core_tree.specs.declared.types.Making.TheVariants as making
 use Rattle.core_tree.specs.declared.values.Arithmetic.TheVariants as arithmetic
-use Rattle.core_tree.specs.declared.values.Callee.TheVariants as callee
 use Rattle.core_tree.specs.declared.values.Comparison.TheVariants as compare
-use Rattle.core_tree.specs.declared.values.LoopCall.TheVariants as loop
 use Rattle.core_tree.specs.declared.values.Part.TheVariants as part
 use Rattle.core_tree.specs.declared.values.TextCall.TheVariants as call_of
-use Rattle.core_tree.proofs.Build.{Row, Printed, here, owned, unowned, void, int, text, object, apply, number, literal, null, local, static, this, field, changed, place, assign, set, run, say, of, block, frame, by_value, method, creation, plain_creation, object_class, class, static_field, program, with_properties, with_signals, notify, quiet_world, scripted, new, call, call_on, line, text_param, keep, moved, copied, told, told_type, told_methods, new_told, told_name, by_text, lambda_at, act, error_type}
-
+use Rattle.core_tree.proofs.Build.{Row, here, owned, unowned, void, int, text, apply, number, null, local, changed, assign, set, say, of, block, frame, by_value, method, object_class, program, quiet_world, line, keep, moved}
 use Rattle.std.specs.Prelude.{negsuc, Ok, Err}
 use Rattle.core_tree.specs.Arithmetic.{calculate, wrap}
 use Rattle.core_tree.specs.Formats.{formatted, Integer, Written}
@@ -128,21 +112,20 @@ calculated o x y = apply (op.Arithmetic o kind.Int32) (x ∷ y ∷ [])
 abbrev pub division : Core
 division =
     program (object_class ∷ []) (
-      method (frame [] (int ∷ int ∷ []) void) (block [] (
-        set a (keep int (number 2147483647))
-        ∷ assign int a (keep int (calculated arithmetic.Add a (number 1)))
-        ∷ say (codes "%d") (a ∷ [])
-        ∷ set (local 1 int) (keep int (apply (op.Number true 1) []))
-        ∷ assign int a (keep int (calculated arithmetic.Divide a (local 1 int)))
-        ∷ []
-      ))
-      ∷ []
+    method (frame [] (int ∷ int ∷ []) void) (block [] (
+    set a (keep int (number 2147483647))
+    ∷ assign int a (keep int (calculated arithmetic.Add a (number 1)))
+    ∷ say (codes "%d") (a ∷ [])
+    ∷ set (local 1 int) (keep int (apply (op.Number true 1) []))
+    ∷ assign int a (keep int (calculated arithmetic.Divide a (local 1 int)))
+    ∷ []
+    ))
+    ∷ []
     ) []
 
 pub division_row : Row division quiet_world 150 (line (codes "-2147483648") ∷ []) (Trapped trap.Division) ([])
 unfolding Rattle.core_tree.specs.declared.tree.CoreExpr.TheViews.out-CoreStmt denote.Hole.Carrier.out Rattle.core_tree.specs.declared.tree.CoreExpr.TheBlock.shown-the_row-CoreStmt-3 denote.Hole.Carrier.shown denote.Hole.Carrier.hidden Rattle.core_tree.specs.declared.tree.CoreExpr.TheViews.out-CoreExpr Rattle.std.specs.Fmt.digits
 division_row = record { says = refl; ends = refl; lives = refl }
-
 
 -- void main () { int[] a = new int[0]; print ("%d\n", a[0]); }
 abbrev numbers : Item
@@ -154,18 +137,17 @@ numbers_type = owned (shape.Array numbers)
 abbrev pub index_outside : Core
 index_outside =
     program (object_class ∷ []) (
-      method (frame [] (numbers_type ∷ []) void) (block (of 0 numbers_type ∷ []) (
-        set (local 0 numbers_type) (moved numbers_type (apply (op.NewArray numbers) (number 0 ∷ [])))
-        ∷ say (codes "%d") (apply (op.Element numbers) (local 0 numbers_type ∷ number 0 ∷ []) ∷ [])
-        ∷ []
-      ))
-      ∷ []
+    method (frame [] (numbers_type ∷ []) void) (block (of 0 numbers_type ∷ []) (
+    set (local 0 numbers_type) (moved numbers_type (apply (op.NewArray numbers) (number 0 ∷ [])))
+    ∷ say (codes "%d") (apply (op.Element numbers) (local 0 numbers_type ∷ number 0 ∷ []) ∷ [])
+    ∷ []
+    ))
+    ∷ []
     ) []
 
 pub index_outside_row : Row index_outside quiet_world 150 (Made Array ∷ []) (Trapped trap.Index) (record { kind = Array; serial = 1; owners = 1 } ∷ [])
 unfolding Rattle.core_tree.specs.declared.tree.CoreExpr.TheViews.out-CoreStmt denote.Hole.Carrier.out Rattle.core_tree.specs.declared.tree.CoreExpr.TheBlock.shown-the_row-CoreStmt-3 denote.Hole.Carrier.shown denote.Hole.Carrier.hidden Rattle.core_tree.specs.declared.tree.CoreExpr.TheViews.out-CoreExpr Rattle.std.specs.Fmt.digits
 index_outside_row = record { says = refl; ends = refl; lives = refl }
-
 
 -- int main (string[] args) {
 --   string? l = stdin.read_line ();
@@ -190,18 +172,18 @@ next_line = moved text (apply (op.TextFunction call_of.ReadLine) [])
 abbrev pub lines_read : Core
 lines_read =
     program (object_class ∷ []) (
-      method (frame (by_value lent_texts ∷ []) (text ∷ texts_type ∷ []) int) (block (of 1 text ∷ of 2 texts_type ∷ []) (
-        set l next_line
-        ∷ st.While (apply (op.CompareTexts compare.Unequal) (l ∷ null ∷ [])) (block [] (
-          say (codes "%s:%s") (apply (op.Element texts) (local 0 lent_texts ∷ number 0 ∷ []) ∷ l ∷ [])
-          ∷ assign text l next_line
-          ∷ []
-        )) here
-        ∷ set (local 2 texts_type) (changed change.CopyArray texts_type (local 0 lent_texts))
-        ∷ st.Return (keep int (calculated arithmetic.Add (apply (op.Part part.ArrayLength) (local 2 texts_type ∷ [])) (number 2)) ∷ []) here
-        ∷ []
-      ))
-      ∷ []
+    method (frame (by_value lent_texts ∷ []) (text ∷ texts_type ∷ []) int) (block (of 1 text ∷ of 2 texts_type ∷ []) (
+    set l next_line
+    ∷ st.While (apply (op.CompareTexts compare.Unequal) (l ∷ null ∷ [])) (block [] (
+    say (codes "%s:%s") (apply (op.Element texts) (local 0 lent_texts ∷ number 0 ∷ []) ∷ l ∷ [])
+    ∷ assign text l next_line
+    ∷ []
+    )) here
+    ∷ set (local 2 texts_type) (changed change.CopyArray texts_type (local 0 lent_texts))
+    ∷ st.Return (keep int (calculated arithmetic.Add (apply (op.Part part.ArrayLength) (local 2 texts_type ∷ [])) (number 2)) ∷ []) here
+    ∷ []
+    ))
+    ∷ []
     ) []
 
 abbrev two_lines : World

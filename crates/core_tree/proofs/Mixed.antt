@@ -1,13 +1,9 @@
 -- Loops, types, arrays of structs, class handlers, virtual properties and timeouts that stay.
 use Rattle.std.specs.Prelude.{◌≡◌, refl, ℕ, zero, suc, Bool, true, false, List, [], ◌∷◌, ◌++◌, Option, Some, None, codes, ℤ, pos}
-use Rattle.vg_base.specs.declared.event.Entry.TheVariants.{Pick, Wait}
-use Rattle.vg_base.specs.declared.event.Event.TheVariants.{Print, Made, Gone, Dispatch}
-use Rattle.vg_base.specs.declared.event.LiveRow.{LiveRow}
-use Rattle.vg_base.specs.declared.event.Stream.TheVariants.{Out}
-use Rattle.vg_base.specs.declared.event.ThingKind.TheVariants.{Object, Text, Array, Scope, Error, Activation}
+use Rattle.vg_base.specs.declared.event.Event.TheVariants.{Made, Gone, Dispatch}
+use Rattle.vg_base.specs.declared.event.ThingKind.TheVariants.{Object, Text, Array, Scope}
 use Rattle.vg_base.specs.declared.event.TrapKind.TheVariants as trap
-use Rattle.vg_base.specs.declared.event.VEnd.TheVariants.{Ended, Dead, Trapped, Waiting}
-use Rattle.vg_base.specs.World.{World}
+use Rattle.vg_base.specs.declared.event.VEnd.TheVariants.{Ended, Trapped}
 use Rattle.vala_types.specs.declared.types.IntKind.TheVariants as kind
 use Rattle.vala_types.specs.declared.types.Item.{Item}
 use Rattle.vala_types.specs.declared.types.ItemShape.TheVariants as item
@@ -15,11 +11,8 @@ use Rattle.vala_types.specs.declared.types.Shape.TheVariants as shape
 use Rattle.vala_types.specs.declared.types.VType.{VType}
 use Rattle.vala_types.specs.declared.owners.Change.TheVariants as change
 use Rattle.core_tree.specs.declared.program.Core.{Core}
-use Rattle.core_tree.specs.declared.lambda.Lambda.{Lambda}
-use Rattle.core_tree.specs.declared.lambda.Scope.{Scope as BlockScope}
 use Rattle.core_tree.specs.declared.lambda.ScopeAt.{ScopeAt}
 use Rattle.core_tree.specs.declared.lambda.Target.TheVariants as bound
-use Rattle.core_tree.specs.declared.lambda.ThisAt.TheVariants as from
 use Rattle.core_tree.specs.declared.lambda.Via.TheVariants as via
 use Rattle.core_tree.specs.declared.operation.Operation.TheVariants as op
 use Rattle.core_tree.specs.declared.tree.CoreExpr.{CoreExpr}
@@ -32,10 +25,7 @@ use Rattle.core_tree.specs.declared.values.Arithmetic.TheVariants as arithmetic
 use Rattle.core_tree.specs.declared.values.Callee.TheVariants as callee
 use Rattle.core_tree.specs.declared.values.Comparison.TheVariants as compare
 use Rattle.core_tree.specs.declared.values.LoopCall.TheVariants as loop
-use Rattle.core_tree.specs.declared.values.Part.TheVariants as part
-use Rattle.core_tree.specs.declared.values.TextCall.TheVariants as call_of
-use Rattle.core_tree.proofs.Build.{Row, Printed, here, owned, unowned, void, int, text, object, apply, number, literal, null, local, static, this, field, changed, place, assign, set, run, say, of, block, frame, by_value, method, creation, plain_creation, object_class, class, static_field, program, with_properties, with_signals, notify, quiet_world, scripted, new, call, call_on, line, text_param, keep, moved, copied, told, told_type, told_methods, new_told, told_name, by_text, lambda_at, act, error_type}
-
+use Rattle.core_tree.proofs.Build.{Row, here, owned, unowned, void, int, text, object, apply, number, literal, null, local, changed, assign, set, run, say, of, block, frame, method, creation, plain_creation, object_class, class, program, with_properties, with_signals, notify, quiet_world, new, line, keep, moved, copied, lambda_at, act}
 use Rattle.core_tree.specs.declared.types.CoreMethod.{CoreMethod}
 use Rattle.core_tree.specs.declared.types.CoreProperty.{CoreProperty}
 use Rattle.core_tree.specs.declared.types.CoreType.{CoreType}
@@ -64,32 +54,31 @@ none = st.Empty here
 abbrev pub loops : Core
 loops =
     program (object_class ∷ []) (
-      method (frame [] (int ∷ []) void) (block [] (
-        set i (keep int (number 0))
-        ∷ st.Do (block [] (
-          counted i
-          ∷ st.If (equal i 2) (st.Continue here) none here
-          ∷ st.If (equal i 4) (st.Break here) none here
-          ∷ say (codes "%d") (i ∷ [])
-          ∷ []
-        )) (less i 10) here
-        ∷ assign int i (keep int (number 0))
-        ∷ st.For (less i 3) (counted i ∷ []) (
-          st.Switch i (
-            st.Section (number 1 ∷ []) false (block [] (say (codes "one") [] ∷ st.Break here ∷ [])) here
-            ∷ st.Section [] true (block [] (st.If (equal i 2) (st.Continue here) none here ∷ say (codes "other") [] ∷ st.Break here ∷ [])) here
-            ∷ []
-          ) here
-        ) here
-        ∷ []
-      ))
-      ∷ []
+    method (frame [] (int ∷ []) void) (block [] (
+    set i (keep int (number 0))
+    ∷ st.Do (block [] (
+    counted i
+    ∷ st.If (equal i 2) (st.Continue here) none here
+    ∷ st.If (equal i 4) (st.Break here) none here
+    ∷ say (codes "%d") (i ∷ [])
+    ∷ []
+    )) (less i 10) here
+    ∷ assign int i (keep int (number 0))
+    ∷ st.For (less i 3) (counted i ∷ []) (
+    st.Switch i (
+    st.Section (number 1 ∷ []) false (block [] (say (codes "one") [] ∷ st.Break here ∷ [])) here
+    ∷ st.Section [] true (block [] (st.If (equal i 2) (st.Continue here) none here ∷ say (codes "other") [] ∷ st.Break here ∷ [])) here
+    ∷ []
+    ) here
+    ) here
+    ∷ []
+    ))
+    ∷ []
     ) []
 
 pub loops_row : Row loops quiet_world 400 (line (codes "1") ∷ line (codes "3") ∷ line (codes "other") ∷ line (codes "one") ∷ []) (Ended (pos 0)) ([])
 unfolding Rattle.core_tree.specs.declared.tree.CoreExpr.TheViews.out-CoreStmt denote.Hole.Carrier.out Rattle.core_tree.specs.declared.tree.CoreExpr.TheBlock.shown-the_row-CoreStmt-3 denote.Hole.Carrier.shown denote.Hole.Carrier.hidden Rattle.core_tree.specs.declared.tree.CoreExpr.TheViews.out-CoreExpr Rattle.std.specs.Fmt.digits
 loops_row = record { says = refl; ends = refl; lives = refl }
-
 
 -- class A : Object { } class B : A { }
 -- void main () {
@@ -112,23 +101,22 @@ derived = declared.Class (record { base = Some 1; is_a = 2 ∷ 1 ∷ 0 ∷ []; c
 abbrev pub types : Core
 types =
     program (object_class ∷ class 1 [] [] None ∷ derived ∷ []) (
-      method (frame [] (object 0 ∷ object 1 ∷ object 2 ∷ []) void) (block (of 0 (object 0) ∷ of 1 (object 1) ∷ of 2 (object 2) ∷ []) (
-        set o (moved (object 0) (new 2 2 []))
-        ∷ say (codes "%d %d %d") (if_so (apply (op.Is 1) (o ∷ [])) ∷ if_so (apply (op.CompareReferences compare.Equal) (apply (op.As 1) (o ∷ []) ∷ null ∷ [])) ∷ if_so (apply (op.Is 3) (o ∷ [])) ∷ [])
-        ∷ set (local 1 (object 1)) (changed change.AddOwner (object 1) (apply (op.Cast 1) (o ∷ [])))
-        ∷ assign (object 0) o (moved (object 0) (new 1 1 []))
-        ∷ set (local 2 (object 2)) (changed change.AddOwner (object 2) (apply (op.Cast 2) (o ∷ [])))
-        ∷ []
-      ))
-      ∷ plain_creation
-      ∷ creation (frame [] [] void) (making.Base 1 []) (block [] [])
-      ∷ []
+    method (frame [] (object 0 ∷ object 1 ∷ object 2 ∷ []) void) (block (of 0 (object 0) ∷ of 1 (object 1) ∷ of 2 (object 2) ∷ []) (
+    set o (moved (object 0) (new 2 2 []))
+    ∷ say (codes "%d %d %d") (if_so (apply (op.Is 1) (o ∷ [])) ∷ if_so (apply (op.CompareReferences compare.Equal) (apply (op.As 1) (o ∷ []) ∷ null ∷ [])) ∷ if_so (apply (op.Is 3) (o ∷ [])) ∷ [])
+    ∷ set (local 1 (object 1)) (changed change.AddOwner (object 1) (apply (op.Cast 1) (o ∷ [])))
+    ∷ assign (object 0) o (moved (object 0) (new 1 1 []))
+    ∷ set (local 2 (object 2)) (changed change.AddOwner (object 2) (apply (op.Cast 2) (o ∷ [])))
+    ∷ []
+    ))
+    ∷ plain_creation
+    ∷ creation (frame [] [] void) (making.Base 1 []) (block [] [])
+    ∷ []
     ) []
 
 pub types_row : Row types quiet_world 400 (Made Object ∷ line (codes "1 0 0") ∷ Made Object ∷ []) (Trapped trap.Cast) (record { kind = Object; serial = 1; owners = 1 } ∷ record { kind = Object; serial = 2; owners = 1 } ∷ [])
 unfolding Rattle.core_tree.specs.declared.tree.CoreExpr.TheViews.out-CoreStmt denote.Hole.Carrier.out Rattle.core_tree.specs.declared.tree.CoreExpr.TheBlock.shown-the_row-CoreStmt-3 denote.Hole.Carrier.shown denote.Hole.Carrier.hidden Rattle.core_tree.specs.declared.tree.CoreExpr.TheViews.out-CoreExpr Rattle.std.specs.Fmt.digits
 types_row = record { says = refl; ends = refl; lives = refl }
-
 
 -- struct P { public int x; public string n; }
 -- void main () {
@@ -159,21 +147,20 @@ n_of p = apply (op.Member 1 text) (p ∷ [])
 abbrev pub struct_elements : Core
 struct_elements =
     program (object_class ∷ declared.Struct (record { cells = int ∷ text ∷ [] }) ∷ []) (
-      method (frame [] (pair ∷ pairs_type ∷ pairs_type ∷ []) void) (block (of 0 pair ∷ of 1 pairs_type ∷ of 2 pairs_type ∷ []) (
-        set (local 0 pair) (new_pair 1 (codes "a"))
-        ∷ set (local 1 pairs_type) (moved pairs_type (apply (op.List pairs) (changed change.CopyStruct pair (local 0 pair) ∷ new_pair 2 (codes "b") ∷ [])))
-        ∷ set (local 2 pairs_type) (changed change.CopyArray pairs_type (local 1 pairs_type))
-        ∷ assign text (n_of (element 1 1)) (copied (literal (codes "c")))
-        ∷ say (codes "%d%s %d%s %s") (x_of (element 2 0) ∷ n_of (element 2 0) ∷ x_of (element 2 1) ∷ n_of (element 2 1) ∷ n_of (element 1 1) ∷ [])
-        ∷ []
-      ))
-      ∷ []
+    method (frame [] (pair ∷ pairs_type ∷ pairs_type ∷ []) void) (block (of 0 pair ∷ of 1 pairs_type ∷ of 2 pairs_type ∷ []) (
+    set (local 0 pair) (new_pair 1 (codes "a"))
+    ∷ set (local 1 pairs_type) (moved pairs_type (apply (op.List pairs) (changed change.CopyStruct pair (local 0 pair) ∷ new_pair 2 (codes "b") ∷ [])))
+    ∷ set (local 2 pairs_type) (changed change.CopyArray pairs_type (local 1 pairs_type))
+    ∷ assign text (n_of (element 1 1)) (copied (literal (codes "c")))
+    ∷ say (codes "%d%s %d%s %s") (x_of (element 2 0) ∷ n_of (element 2 0) ∷ x_of (element 2 1) ∷ n_of (element 2 1) ∷ n_of (element 1 1) ∷ [])
+    ∷ []
+    ))
+    ∷ []
     ) []
 
 pub struct_elements_row : Row struct_elements quiet_world 500 (Made Text ∷ Made Text ∷ Made Text ∷ Made Array ∷ Made Array ∷ Made Text ∷ Made Text ∷ Made Text ∷ Gone 3 ∷ line (codes "1a 2b c") ∷ Gone 6 ∷ Gone 7 ∷ Gone 5 ∷ Gone 2 ∷ Gone 8 ∷ Gone 4 ∷ Gone 1 ∷ []) (Ended (pos 0)) ([])
 unfolding Rattle.core_tree.specs.declared.tree.CoreExpr.TheViews.out-CoreStmt denote.Hole.Carrier.out Rattle.core_tree.specs.declared.tree.CoreExpr.TheBlock.shown-the_row-CoreStmt-3 denote.Hole.Carrier.shown denote.Hole.Carrier.hidden Rattle.core_tree.specs.declared.tree.CoreExpr.TheViews.out-CoreExpr Rattle.std.specs.Fmt.digits
 struct_elements_row = record { says = refl; ends = refl; lives = refl }
-
 
 -- class S : Object { public virtual signal void hit () { print ("class\n"); } }
 -- void before () { print ("before\n"); } void after () { print ("after\n"); }
@@ -191,21 +178,20 @@ connected is_after m = run (apply (op.Connect 1 None is_after false true (callee
 abbrev pub phases : Core
 phases =
     with_signals (
-      program (object_class ∷ with_slots 5 2 ∷ []) (
-        method (frame [] (object 1 ∷ []) void) (block (of 0 (object 1) ∷ []) (
-          set (local 0 (object 1)) (moved (object 1) (new 1 1 []))
-          ∷ connected true 4 ∷ connected false 3
-          ∷ run (apply (op.Emit 1) (local 0 (object 1) ∷ []))
-          ∷ []
-        ))
-        ∷ plain_creation ∷ prints (codes "class") ∷ prints (codes "before") ∷ prints (codes "after") ∷ []
-      ) []
+    program (object_class ∷ with_slots 5 2 ∷ []) (
+    method (frame [] (object 1 ∷ []) void) (block (of 0 (object 1) ∷ []) (
+    set (local 0 (object 1)) (moved (object 1) (new 1 1 []))
+    ∷ connected true 4 ∷ connected false 3
+    ∷ run (apply (op.Emit 1) (local 0 (object 1) ∷ []))
+    ∷ []
+    ))
+    ∷ plain_creation ∷ prints (codes "class") ∷ prints (codes "before") ∷ prints (codes "after") ∷ []
+    ) []
     ) (notify ∷ record { parameters = []; class_handler = Some 5 } ∷ [])
 
 pub phases_row : Row phases quiet_world 300 (Made Object ∷ line (codes "before") ∷ line (codes "class") ∷ line (codes "after") ∷ Gone 1 ∷ []) (Ended (pos 0)) ([])
 unfolding Rattle.core_tree.specs.declared.tree.CoreExpr.TheViews.out-CoreStmt denote.Hole.Carrier.out Rattle.core_tree.specs.declared.tree.CoreExpr.TheBlock.shown-the_row-CoreStmt-3 denote.Hole.Carrier.shown denote.Hole.Carrier.hidden Rattle.core_tree.specs.declared.tree.CoreExpr.TheViews.out-CoreExpr Rattle.std.specs.Fmt.digits
 phases_row = record { says = refl; ends = refl; lives = refl }
-
 
 -- interface I : Object { public abstract int n { get; set; } }
 -- class A : Object, I { public int n { get; set; } }
@@ -216,7 +202,14 @@ property accessor get set_ = record { name = codes "n"; kind = int; getter = acc
 abbrev implementing : CoreType
 implementing =
     declared.Class (record {
-      base = Some 0; is_a = 1 ∷ 0 ∷ 2 ∷ []; cells = int ∷ []; own = 0; initials = []; construct_properties = []; construct_blocks = []; destructor = None;
+      base = Some 0;
+      is_a = 1 ∷ 0 ∷ 2 ∷ [];
+      cells = int ∷ [];
+      own = 0;
+      initials = [];
+      construct_properties = [];
+      construct_blocks = [];
+      destructor = None;
       slots = record { slot = 6; member = 1 } ∷ record { slot = 7; member = 1 } ∷ [];
     })
 
@@ -229,22 +222,21 @@ n_through = apply (op.Property 0) (local 0 interface_type ∷ [])
 abbrev pub property_of_interface : Core
 property_of_interface =
     with_signals (with_properties (
-      program (object_class ∷ implementing ∷ declared.Other ∷ []) (
-        method (frame [] (interface_type ∷ []) void) (block (of 0 interface_type ∷ []) (
-          set (local 0 interface_type) (moved interface_type (new 1 1 []))
-          ∷ run (apply (op.Connect 0 (Some (codes "n")) false false false callee.Delegate) (local 0 interface_type ∷ lambda_at 1 bound.Nothing (say (codes "n") [] ∷ []) ∷ []))
-          ∷ assign int n_through (keep int (number 2))
-          ∷ say (codes "%d") (n_through ∷ [])
-          ∷ []
-        ))
-        ∷ plain_creation ∷ []
-      ) []
+    program (object_class ∷ implementing ∷ declared.Other ∷ []) (
+    method (frame [] (interface_type ∷ []) void) (block (of 0 interface_type ∷ []) (
+    set (local 0 interface_type) (moved interface_type (new 1 1 []))
+    ∷ run (apply (op.Connect 0 (Some (codes "n")) false false false callee.Delegate) (local 0 interface_type ∷ lambda_at 1 bound.Nothing (say (codes "n") [] ∷ []) ∷ []))
+    ∷ assign int n_through (keep int (number 2))
+    ∷ say (codes "%d") (n_through ∷ [])
+    ∷ []
+    ))
+    ∷ plain_creation ∷ []
+    ) []
     ) (property access.Missing (Some 6) (Some 7) ∷ property (access.Automatic 0) None None ∷ [])) (notify ∷ [])
 
 pub property_of_interface_row : Row property_of_interface quiet_world 300 (Made Object ∷ line (codes "n") ∷ line (codes "2") ∷ Gone 1 ∷ []) (Ended (pos 0)) ([])
 unfolding Rattle.core_tree.specs.declared.tree.CoreExpr.TheViews.out-CoreStmt denote.Hole.Carrier.out Rattle.core_tree.specs.declared.tree.CoreExpr.TheBlock.shown-the_row-CoreStmt-3 denote.Hole.Carrier.shown denote.Hole.Carrier.hidden Rattle.core_tree.specs.declared.tree.CoreExpr.TheViews.out-CoreExpr Rattle.std.specs.Fmt.digits
 property_of_interface_row = record { says = refl; ends = refl; lives = refl }
-
 
 -- void main () { MainLoop l = new MainLoop (); int n = 0; Timeout.add (5, () => { n++; print ("%d\n", n); if (n == 3) l.quit (); return true; }); l.run (); }
 abbrev held_by : ScopeAt
@@ -259,24 +251,24 @@ var at n type = apply (op.Captured at n type) []
 abbrev pub timeout_stays : Core
 timeout_stays =
     program (object_class ∷ []) (
-      method (frame [] (object 0 ∷ []) void) (
-        st.Block [] (record { hold = 0; variables = object 0 ∷ int ∷ []; outer = None; this = None; parameters = [] } ∷ []) (
-          set (var held_by 0 (object 0)) (moved (object 0) (apply (op.Loop loop.New) []))
-          ∷ set (var held_by 1 int) (keep int (number 0))
-          ∷ run (apply (op.Loop loop.TimeoutAdd) (number 5 ∷ moved act (
-            e.Lambda (record { locals = frame [] [] (owned shape.Bool); target = bound.Captures held_by; is_owning = true }) (block [] (
-              counted (var at_target 1 int)
-              ∷ say (codes "%d") (var at_target 1 int ∷ [])
-              ∷ st.If (equal (var at_target 1 int) 3) (run (apply (op.Loop loop.Quit) (var at_target 0 (object 0) ∷ []))) none here
-              ∷ st.Return (number 1 ∷ []) here
-              ∷ []
-            )) here
-          ) ∷ []))
-          ∷ run (apply (op.Loop loop.Run) (var held_by 0 (object 0) ∷ []))
-          ∷ []
-        ) here
-      )
-      ∷ []
+    method (frame [] (object 0 ∷ []) void) (
+    st.Block [] (record { hold = 0; variables = object 0 ∷ int ∷ []; outer = None; this = None; parameters = [] } ∷ []) (
+    set (var held_by 0 (object 0)) (moved (object 0) (apply (op.Loop loop.New) []))
+    ∷ set (var held_by 1 int) (keep int (number 0))
+    ∷ run (apply (op.Loop loop.TimeoutAdd) (number 5 ∷ moved act (
+    e.Lambda (record { locals = frame [] [] (owned shape.Bool); target = bound.Captures held_by; is_owning = true }) (block [] (
+    counted (var at_target 1 int)
+    ∷ say (codes "%d") (var at_target 1 int ∷ [])
+    ∷ st.If (equal (var at_target 1 int) 3) (run (apply (op.Loop loop.Quit) (var at_target 0 (object 0) ∷ []))) none here
+    ∷ st.Return (number 1 ∷ []) here
+    ∷ []
+    )) here
+    ) ∷ []))
+    ∷ run (apply (op.Loop loop.Run) (var held_by 0 (object 0) ∷ []))
+    ∷ []
+    ) here
+    )
+    ∷ []
     ) []
 
 pub timeout_stays_row : Row timeout_stays quiet_world 500 (Made Scope ∷ Made Object ∷ Dispatch 1 ∷ line (codes "1") ∷ Dispatch 1 ∷ line (codes "2") ∷ Dispatch 1 ∷ line (codes "3") ∷ []) (Ended (pos 0)) (record { kind = Scope; serial = 1; owners = 1 } ∷ record { kind = Object; serial = 2; owners = 1 } ∷ [])

@@ -1,5 +1,5 @@
 -- Async methods: activations, where they park, and how they complete.
-use Rattle.std.specs.Prelude.{ℕ, zero, suc, ◌+◌, ◌==◌, Bool, true, false, if◌then◌else◌, List, [], ◌∷◌, ◌++◌, length, map, flat_map, Option, Some, None, slice_get}
+use Rattle.std.specs.Prelude.{ℕ, zero, suc, ◌+◌, ◌==◌, ◌||◌, Bool, true, false, if◌then◌else◌, List, [], ◌∷◌, ◌++◌, length, map, flat_map, Option, Some, None, slice_get}
 use Rattle.vg_base.specs.declared.event.VEnd.TheVariants.{Trapped}
 use Rattle.vg_base.specs.declared.event.TrapKind.TheVariants as trap
 use Rattle.vala_types.specs.declared.types.Shape.TheVariants as shape
@@ -69,7 +69,7 @@ is_delegate v = false
 abbrev pub copy_of : State.State → VType → Operand → List Item
 copy_of s kind (Owned n) = []
 copy_of s kind (OwnedCells first count) = []
-copy_of s kind o = if is_delegate (value_of s o) then [] else ChangeTop (into_owner kind.shape false) kind ∷ []
+copy_of s kind o = if is_delegate (value_of s o) || is_null (value_of s o) then [] else ChangeTop (into_owner kind.shape false) kind ∷ []
 
 -- an operand goes into an owning place
 abbrev pub put_into : State.State → ℕ → VType → Operand → List Item

@@ -1,7 +1,7 @@
 -- One step: the first item of the work is done.
 use Rattle.std.specs.Prelude.{ℕ, true, false, if◌then◌else◌, pos, List, [], ◌∷◌, ◌++◌, map, reverse, max, Option, Some, None, slice_get}
 use Rattle.vg_base.specs.declared.event.VEnd.{VEnd}
-use Rattle.vg_base.specs.declared.event.VEnd.TheVariants.{Ended}
+use Rattle.vg_base.specs.declared.event.VEnd.TheVariants.{Ended, Dead}
 use Rattle.vg_base.specs.World.{World}
 use Rattle.vg_base.specs.Headline.{Meaning, Observed, observed}
 use Rattle.vala_types.specs.declared.types.VType.{VType}
@@ -15,7 +15,7 @@ use Rattle.core_tree.specs.declared.types.CorePlace.{CorePlace}
 use Rattle.core_tree.specs.State
 use Rattle.core_tree.specs.State.{Value, Null, Number, Literal, Arguments, Place, Operand, Given, At, Frame, Item, Evaluate, Locate, Push, ReadTarget, ReadAway, ChangeTop, Perform, Reach, CopyCells, AndThen, OrElse, OneOf, IfNull, Branch, Repeat, Execute, Discard, Store, EndStatement, EndBlock, GiveUp, Clear, Turn, Steps, Each, BeginEach, EndSwitch, Choose, SetResult, Leave, ThrowGiven, Catches, Finally, EndCall, EndMaking, BeginMaking, CallBase, MakeObject, SetProperty, RunMethod, Notify, Emit, CallHandler, CallClassHandler, LoopTurn, EndFunction, EndCompletion, EndDispatch, BeginBody, EndBody, BackTo, ParkFor, Receive, End, Check, Start, EndMain}
 use Rattle.core_tree.specs.Owners.{live, most_owned}
-use Rattle.core_tree.specs.Places.{Out, quiet, stop, stuck, next, zero_of, empty_places, firsts, put, is_owning_place, give_up, value_of, give, is_null}
+use Rattle.core_tree.specs.Places.{Out, quiet, stop, stuck, next, zero_of, empty_places, firsts, put, is_owning_place, give_up, within_gone, value_of, give, is_null}
 use Rattle.core_tree.specs.Calls.{return_to}
 use Rattle.core_tree.specs.Changes.{change, copy_cell}
 use Rattle.core_tree.specs.Invoke.{call_method}
@@ -67,9 +67,11 @@ abbrev pub end_block : State.State → List ℕ → Out
 end_block s [] = quiet s
 end_block s (n ∷ ns) = quiet (give_up (next (EndBlock ns ∷ []) s) n)
 
--- a place becomes zero or null, and what it held is given up
+-- A place becomes zero or null, and what it held is given up. It is a dead use where the thing that has the place is gone by now.
 abbrev pub clear : State.State → ℕ → VType → Out
-clear s n kind = if is_owning_place s n then quiet (give_up s n) else quiet (put s n (zero_of kind.shape))
+clear s n kind =
+    if within_gone s (slice_get s.places n) then stop s Dead
+    else (if is_owning_place s n then quiet (give_up s n) else quiet (put s n (zero_of kind.shape)))
 
 -- the parameters are given up, one in a step, and then the caller goes on
 abbrev pub end_call : Core → State.State → List ℕ → Frame → Out
