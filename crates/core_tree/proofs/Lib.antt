@@ -11,6 +11,7 @@ pub mod Scopes
 pub mod Objects
 pub mod Activations
 pub mod PlaceLaws
+pub mod TurnLaws
 pub mod Shop
 pub mod Passing
 pub mod Gone

@@ -1,5 +1,9 @@
 -- What the laws on the meaning speak of.
 use Rattle.std.specs.Prelude.{◌≡◌, ◌≢◌, ℕ, Bool, false, List, [], length, Option, Some}
+use Rattle.std.specs.Prelude.{IsTrue, ◌==◌, ◌&&◌, nat_le}
+use Rattle.std.specs.List.{list_any}
+use Rattle.vg_base.specs.declared.event.Entry.{Entry}
+use Rattle.vg_base.specs.Turn.{Due, Dispatched, turn}
 use Rattle.vg_base.specs.World.{World}
 use Rattle.vg_base.specs.Run.{IsRun}
 use Rattle.vg_base.specs.Machine.{run_from}
@@ -36,3 +40,9 @@ abbrev pub ThingsAreNumbered : Type 0
 ThingsAreNumbered =
     (s : State.State) (content : Content) (ps : List Place)
     → thing_at (with_thing s content ps) (next_serial s) ≡ Some (record { content = content; status = Live; first = length s.places; count = length ps })
+
+-- what a turn dispatches is a source that is there and ready
+abbrev pub DispatchesReadySource : Type 0
+DispatchesReadySource =
+    (entries : List Entry) (clock : ℕ) (sources : List Due) (id : ℕ)
+    → (turn entries clock sources).choice ≡ Dispatched id → IsTrue (list_any (λ (d : Due). d.id == id && nat_le d.due (turn entries clock sources).clock) sources)

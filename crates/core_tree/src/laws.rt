@@ -2,7 +2,7 @@
 
 ghost use Rattle.std.specs.Prelude.{ℕ};
 ghost use Rattle.core_tree.specs.State.{State};
-ghost use Rattle.core_tree.specs.Laws.{CallbacksOwnNothing, EmptiesOnePlace, LiteralsAreNoThings, NothingLivesAtFirst, RunsGoOn, ThingsAreNumbered};
+ghost use Rattle.core_tree.specs.Laws.{CallbacksOwnNothing, DispatchesReadySource, EmptiesOnePlace, LiteralsAreNoThings, NothingLivesAtFirst, RunsGoOn, ThingsAreNumbered};
 
 /// A trace only grows, an end stays, and nothing lives before the first step.
 pub fn runs_go_on()
@@ -24,4 +24,9 @@ pub fn one_place_is_given_up()
 /// Things are numbered 1, 2, 3 in the order of their making.
 pub fn things_are_numbered()
     ensures { ThingsAreNumbered }
+{}
+
+/// What a turn of the main loop dispatches is a source that is there and ready.
+pub fn ready_sources_are_dispatched()
+    ensures { DispatchesReadySource }
 {}

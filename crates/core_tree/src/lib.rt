@@ -15,7 +15,10 @@ pub use lambda::{
     BlockLocal, CapturedParameter, CoreParameter, Lambda, Locals, Mode, Scope, ScopeAt, Target,
     ThisAt, Via,
 };
-pub use laws::{one_place_is_given_up, only_things_are_owned, runs_go_on, things_are_numbered};
+pub use laws::{
+    one_place_is_given_up, only_things_are_owned, ready_sources_are_dispatched, runs_go_on,
+    things_are_numbered,
+};
 pub use operation::Operation;
 pub use program::Core;
 pub use tree::{CoreExpr, CoreStmt};
