@@ -45,12 +45,12 @@ width_in core _ = 1
 -- Targets
 
 -- where a target leads, with its tests: null before dead before the index
-abbrev pub find : Core → State.State → Operand → Found
-find core s (At n) = find_at s n
-find core s (CellOf v k) = find_cell s v k
-find core s (ElementOf v i) = find_element s v (width_in core (content_of s v)) i
-find core s (VariableOf v outward k) = find_variable s v outward k
-find core s _ = Nowhere
+abbrev pub find_target : Core → State.State → Operand → Found
+find_target core s (At n) = find_at s n
+find_target core s (CellOf v k) = find_cell s v k
+find_target core s (ElementOf v i) = find_element s v (width_in core (content_of s v)) i
+find_target core s (VariableOf v outward k) = find_variable s v outward k
+find_target core s _ = Nowhere
 
 -- a receiver of which nothing but its being there is looked at
 abbrev pub used : State.State → Value → Found
@@ -160,8 +160,8 @@ cells_before core p mode.Out = 0
 -- one more parameter, by its mode
 abbrev pub with_parameter : Core → State.State → ℕ → CoreParameter → Mode → Operand → Arranged → Arranged
 with_parameter core s n p mode.Value o rest = with_value core s n p o rest
-with_parameter core s n p mode.Ref o rest = with_target (find core s o) [] rest
-with_parameter core s n p mode.Out o rest = with_target (find core s o) (clears (place_found (find core s o)) (cells_of core p.kind)) rest
+with_parameter core s n p mode.Ref o rest = with_target (find_target core s o) [] rest
+with_parameter core s n p mode.Out o rest = with_target (find_target core s o) (clears (place_found (find_target core s o)) (cells_of core p.kind)) rest
 
 -- each parameter with its argument; new places are numbered from n on
 abbrev pub arrange : Core → State.State → ℕ → List CoreParameter → List Operand → Arranged

@@ -30,10 +30,10 @@ use Rattle.core_tree.specs.Arithmetic.{wrap, calculate, compare_numbers, compare
 use Rattle.core_tree.specs.Formats.{Argument, Integer, Written, formatted}
 use Rattle.core_tree.specs.Texts.{TextResult, Makes, Gives, Traps, Nothing, apply_text, line_of, behind_line, before_zero}
 use Rattle.core_tree.specs.Places.{Out, quiet, stop, stuck, next, cells_of, range, held, put, owning_from, add_places, with_thing, next_serial, made, uses, reads, is_null, cannot_be_owned, content_of, release, unless, value_of, give, give_value, give_number, give_bool, give_owned, give_made, There}
-use Rattle.core_tree.specs.Calls.{type_of_item, find, values_of, left_by, filled, emptied, give_cells}
+use Rattle.core_tree.specs.Calls.{type_of_item, find_target, values_of, left_by, filled, emptied, give_cells}
 use Rattle.core_tree.specs.Changes.{bytes_of, give_text, change, cells_in, empty_array}
 use Rattle.core_tree.specs.Invoke.{local_place, way_begins, find_this, with_found, class_of, member_in, call, with_receiver}
-use Rattle.core_tree.specs.Storing.{same_reference, read, get_property, take}
+use Rattle.core_tree.specs.Storing.{same_reference, read, get_property, take_from}
 use Rattle.core_tree.specs.Objects.{new_object}
 use Rattle.core_tree.specs.Signals.{emit, connect, disconnect, disconnect_id}
 use Rattle.core_tree.specs.Async.{begin, yield_call, end, callback}
@@ -219,7 +219,7 @@ append_at core s of n x =
 
 -- an array in a place gets one more element
 abbrev pub append : Core → State.State → ElementType → Operand → Operand → Out
-append core s of target x = with_found s (find core s target) (λ n. unless (reads s (held s n ∷ [])) s (append_at core s of n x))
+append core s of target x = with_found s (find_target core s target) (λ n. unless (reads s (held s n ∷ [])) s (append_at core s of n x))
 
 -- Delegates
 
@@ -320,15 +320,15 @@ perform core s (op.Number is_negative size) os = quiet (give_number s (signed_nu
 perform core s (op.Text bytes) os = quiet (give_value s (Literal bytes))
 perform core s op.Null os = quiet (give_value s Null)
 perform core s (op.This at) os = with_found s (find_this s at) (λ n. quiet (give_value s (held s n)))
-perform core s (op.Local n kind) os = read s kind (find core s (At (local_place s n)))
+perform core s (op.Local n kind) os = read s kind (find_target core s (At (local_place s n)))
 perform core s (op.Static n kind) os = read s kind (There (slice_index_or s.statics n 0))
-perform core s (op.Captured at n kind) os = read s kind (find core s (VariableOf (way_begins s at.via) at.outward n))
-perform core s (op.Field n kind) os = on_one s os (λ o. read s kind (find core s (CellOf (value_of s o) n)))
-perform core s (op.Member n kind) os = on_one s os (λ o. read s kind (find core s (CellOf (value_of s o) n)))
+perform core s (op.Captured at n kind) os = read s kind (find_target core s (VariableOf (way_begins s at.via) at.outward n))
+perform core s (op.Field n kind) os = on_one s os (λ o. read s kind (find_target core s (CellOf (value_of s o) n)))
+perform core s (op.Member n kind) os = on_one s os (λ o. read s kind (find_target core s (CellOf (value_of s o) n)))
 perform core s (op.Element of) os =
-    on_two s os (λ a i. with_number s (value_of s i) (λ z. read s (type_of_item of) (find core s (ElementOf (value_of s a) z))))
+    on_two s os (λ a i. with_number s (value_of s i) (λ z. read s (type_of_item of) (find_target core s (ElementOf (value_of s a) z))))
 perform core s (op.Property n) os = on_one s os (λ o. get_property core s (value_of s o) n)
-perform core s (op.Take kind) os = on_one s os (λ o. take core s kind o)
+perform core s (op.Take kind) os = on_one s os (λ o. take_from core s kind o)
 perform core s (op.Arithmetic o kind) os = arithmetic_of s o kind os
 perform core s (op.Convert kind) os = on_one s os (λ o. with_number s (value_of s o) (λ z. quiet (give_number s (wrap kind z))))
 perform core s (op.CompareNumbers c) os =

@@ -14,7 +14,7 @@ use Rattle.core_tree.specs.State
 use Rattle.core_tree.specs.State.{Value, Null, Number, Literal, Arguments, Thing, Message, Cells, Delegate, Place, Code, Method, Body, Resume, Operand, Given, Owned, OwnedCells, At, CellOf, ElementOf, PropertyOf, VariableOf, Item, Push, Store, ChangeTop, GiveUp, EndStatement, Notify, Content, TextOf, ErrorOf}
 use Rattle.core_tree.specs.Arithmetic.{int_equal, bytes_equal, is_zero}
 use Rattle.core_tree.specs.Places.{Out, quiet, stuck, next, cells_of, is_owning, zero_of, add_places, give_owned, range, held, put, owning_from, is_owning_place, release, reads, unless, value_of, give, Found}
-use Rattle.core_tree.specs.Calls.{find, tested, used, is_struct, give_cells}
+use Rattle.core_tree.specs.Calls.{find_target, tested, used, is_struct, give_cells}
 use Rattle.core_tree.specs.Changes.{bytes_of}
 use Rattle.core_tree.specs.Invoke.{with_found, call_method, class_of, member_in}
 
@@ -74,7 +74,7 @@ no_property s v = unless (tested (used s v ∷ [])) s (stuck s)
 
 -- the getter of a property
 abbrev pub get_by : Core → State.State → CoreProperty → Value → Accessor → Out
-get_by core s p v (access.Automatic cell) = copied_if p.is_get_owned p.kind (read s p.kind (find core s (CellOf v cell)))
+get_by core s p v (access.Automatic cell) = copied_if p.is_get_owned p.kind (read s p.kind (find_target core s (CellOf v cell)))
 get_by core s p v (access.Written m) = call_method core s (used s v ∷ []) v [] m
 get_by core s p v access.Missing = no_property s v
 
@@ -95,7 +95,7 @@ get_property core s v n = get_reached core s v n (slice_get core.properties n)
 -- a target is read: a place of a type, or a property
 abbrev pub read_target : Core → State.State → VType → Operand → Out
 read_target core s kind (PropertyOf o n) = get_property core s (value_of s o) n
-read_target core s kind target = read s kind (find core s target)
+read_target core s kind target = read s kind (find_target core s target)
 
 -- Storing
 
@@ -155,7 +155,7 @@ set_found s p number v new f =
 
 -- The setter of a property. Behind the body of a written one comes the notification.
 abbrev pub set_by : Core → State.State → CoreProperty → ℕ → Value → Operand → Accessor → Out
-set_by core s p number v new (access.Automatic cell) = set_found s p number v (value_of s new) (find core s (CellOf v cell))
+set_by core s p number v new (access.Automatic cell) = set_found s p number v (value_of s new) (find_target core s (CellOf v cell))
 set_by core s p number v new (access.Written m) = call_method core (next (Notify v number ∷ []) s) (used s v ∷ []) v (new ∷ []) m
 set_by core s p number v new access.Missing = no_property s v
 
@@ -176,7 +176,7 @@ set_property core s v n new = set_reached core s v n new (slice_get core.propert
 -- a value goes into a target
 abbrev pub store : Core → State.State → Operand → Operand → Out
 store core s (PropertyOf o n) new = set_property core s (value_of s o) n new
-store core s target o = with_found s (find core s target) (λ n. store_at s n o)
+store core s target o = with_found s (find_target core s target) (λ n. store_at s n o)
 
 -- `(owned) x` of a struct: all its cells move, and are zero or null then.
 abbrev pub cells_taken : State.State → List VType → ℕ → List Place
@@ -199,8 +199,8 @@ abbrev pub take_at : Core → State.State → VType → ℕ → State.State
 take_at core s kind n = if is_struct kind.shape then take_struct s (cells_of core kind) n else give_owned (put s n Null) (held s n)
 
 -- moves what a target holds into an owned temporary
-abbrev pub take : Core → State.State → VType → Operand → Out
-take core s kind target = with_found s (find core s target) (λ n. quiet (take_at core s kind n))
+abbrev pub take_from : Core → State.State → VType → Operand → Out
+take_from core s kind target = with_found s (find_target core s target) (λ n. quiet (take_at core s kind n))
 
 -- a `bool` that is false
 abbrev pub is_false : Value → Bool

@@ -43,9 +43,9 @@ place_of part [] = if is_front part [] then Some 0 else None
 place_of part (b ∷ bs) = first_if (is_front part (b ∷ bs)) (place_of part bs)
 
 -- there is one
-abbrev pub is_some : Option ℕ → Bool
-is_some None = false
-is_some (Some n) = true
+abbrev pub is_found : Option ℕ → Bool
+is_found None = false
+is_found (Some n) = true
 
 -- the place, counted from the start, or -1
 abbrev pub or_minus_one : ℕ → Option ℕ → TextResult
@@ -128,7 +128,7 @@ apply_text text.Concatenate (Written a ∷ Written b ∷ []) = made_text (a ++ b
 apply_text text.Length (Written a ∷ []) = Gives (signed 32 (length a))
 apply_text text.Byte (Written a ∷ Integer i ∷ []) = byte_at a (place_in (length a) i)
 apply_text text.Substring (Written a ∷ Integer start ∷ Integer count ∷ []) = substring_from a count (place_in (length a) (from_end (length a) start))
-apply_text text.Contains (Written a ∷ Written b ∷ []) = truth (is_some (place_of b a))
+apply_text text.Contains (Written a ∷ Written b ∷ []) = truth (is_found (place_of b a))
 apply_text text.HasPrefix (Written a ∷ Written b ∷ []) = truth (is_front b a)
 apply_text text.HasSuffix (Written a ∷ Written b ∷ []) = truth (nat_le (length b) (length a) && is_front b (drop (length a - length b) a))
 apply_text text.IndexOf (Written a ∷ Written b ∷ Integer start ∷ []) = index_from a b (place_in (length a) start)
