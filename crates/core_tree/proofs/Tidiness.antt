@@ -3,15 +3,17 @@ use Rattle.std.specs.Prelude.{◌≡◌, refl, true}
 use Rattle.core_tree.specs.Step.{opening}
 use Rattle.core_tree.specs.Tidy.{stays_tidy}
 use Rattle.core_tree.proofs.Build.{quiet_world}
+use Rattle.core_tree.proofs.Mixed.{struct_elements, timeout_stays}
+use Rattle.core_tree.proofs.Shop.{shop}
 use Rattle.core_tree.proofs.Destructor.{core}
 use Rattle.core_tree.proofs.Owning.{moved_twice, weak_cycle}
 use Rattle.core_tree.proofs.Lambdas.{shared_variable}
 use Rattle.core_tree.proofs.Errors.{carried_error}
 use Rattle.core_tree.proofs.Emissions.{disconnected}
-use Rattle.core_tree.proofs.Objects.{making_throws, struct_assigned, temporaries_of_base}
+use Rattle.core_tree.proofs.Objects.{making_throws, struct_assigned, temporaries_of_base, written_property}
 use Rattle.core_tree.proofs.Activations.{result_not_taken, waits_for_inner}
-use Rattle.core_tree.proofs.Scopes.{end_of_call}
-use Rattle.core_tree.proofs.Ways.{finally_throws}
+use Rattle.core_tree.proofs.Scopes.{end_of_call, captured_parameters}
+use Rattle.core_tree.proofs.Ways.{finally_throws, temporaries_of_error}
 use Rattle.core_tree.proofs.Passing.{disconnects_itself}
 use Rattle.core_tree.proofs.Gone.{handler_of_ending, second_end}
 
@@ -78,3 +80,27 @@ second_end_is_tidy = refl
 pub handler_of_ending_is_tidy : stays_tidy handler_of_ending 200 (opening handler_of_ending quiet_world) ≡ true
 unfolding Rattle.core_tree.specs.declared.tree.CoreExpr.TheViews.out-CoreStmt denote.Hole.Carrier.out Rattle.core_tree.specs.declared.tree.CoreExpr.TheBlock.shown-the_row-CoreStmt-3 denote.Hole.Carrier.shown denote.Hole.Carrier.hidden Rattle.core_tree.specs.declared.tree.CoreExpr.TheViews.out-CoreExpr Rattle.std.specs.Fmt.digits
 handler_of_ending_is_tidy = refl
+
+pub shop_is_tidy : stays_tidy shop 700 (opening shop quiet_world) ≡ true
+unfolding Rattle.core_tree.specs.declared.tree.CoreExpr.TheViews.out-CoreStmt denote.Hole.Carrier.out Rattle.core_tree.specs.declared.tree.CoreExpr.TheBlock.shown-the_row-CoreStmt-3 denote.Hole.Carrier.shown denote.Hole.Carrier.hidden Rattle.core_tree.specs.declared.tree.CoreExpr.TheViews.out-CoreExpr Rattle.std.specs.Fmt.digits
+shop_is_tidy = refl
+
+pub written_property_is_tidy : stays_tidy written_property 500 (opening written_property quiet_world) ≡ true
+unfolding Rattle.core_tree.specs.declared.tree.CoreExpr.TheViews.out-CoreStmt denote.Hole.Carrier.out Rattle.core_tree.specs.declared.tree.CoreExpr.TheBlock.shown-the_row-CoreStmt-3 denote.Hole.Carrier.shown denote.Hole.Carrier.hidden Rattle.core_tree.specs.declared.tree.CoreExpr.TheViews.out-CoreExpr Rattle.std.specs.Fmt.digits
+written_property_is_tidy = refl
+
+pub struct_elements_is_tidy : stays_tidy struct_elements 400 (opening struct_elements quiet_world) ≡ true
+unfolding Rattle.core_tree.specs.declared.tree.CoreExpr.TheViews.out-CoreStmt denote.Hole.Carrier.out Rattle.core_tree.specs.declared.tree.CoreExpr.TheBlock.shown-the_row-CoreStmt-3 denote.Hole.Carrier.shown denote.Hole.Carrier.hidden Rattle.core_tree.specs.declared.tree.CoreExpr.TheViews.out-CoreExpr Rattle.std.specs.Fmt.digits
+struct_elements_is_tidy = refl
+
+pub timeout_stays_is_tidy : stays_tidy timeout_stays 400 (opening timeout_stays quiet_world) ≡ true
+unfolding Rattle.core_tree.specs.declared.tree.CoreExpr.TheViews.out-CoreStmt denote.Hole.Carrier.out Rattle.core_tree.specs.declared.tree.CoreExpr.TheBlock.shown-the_row-CoreStmt-3 denote.Hole.Carrier.shown denote.Hole.Carrier.hidden Rattle.core_tree.specs.declared.tree.CoreExpr.TheViews.out-CoreExpr Rattle.std.specs.Fmt.digits
+timeout_stays_is_tidy = refl
+
+pub captured_parameters_is_tidy : stays_tidy captured_parameters 300 (opening captured_parameters quiet_world) ≡ true
+unfolding Rattle.core_tree.specs.declared.tree.CoreExpr.TheViews.out-CoreStmt denote.Hole.Carrier.out Rattle.core_tree.specs.declared.tree.CoreExpr.TheBlock.shown-the_row-CoreStmt-3 denote.Hole.Carrier.shown denote.Hole.Carrier.hidden Rattle.core_tree.specs.declared.tree.CoreExpr.TheViews.out-CoreExpr Rattle.std.specs.Fmt.digits
+captured_parameters_is_tidy = refl
+
+pub temporaries_of_error_is_tidy : stays_tidy temporaries_of_error 300 (opening temporaries_of_error quiet_world) ≡ true
+unfolding Rattle.core_tree.specs.declared.tree.CoreExpr.TheViews.out-CoreStmt denote.Hole.Carrier.out Rattle.core_tree.specs.declared.tree.CoreExpr.TheBlock.shown-the_row-CoreStmt-3 denote.Hole.Carrier.shown denote.Hole.Carrier.hidden Rattle.core_tree.specs.declared.tree.CoreExpr.TheViews.out-CoreExpr Rattle.std.specs.Fmt.digits
+temporaries_of_error_is_tidy = refl
