@@ -5,6 +5,7 @@ pub mod World
 pub mod Headline
 pub mod Outside
 pub mod Small
+pub mod Turn
 pub mod Laws
 pub mod Scanner
 pub mod Memory

@@ -1,0 +1,29 @@
+// The typed core of a program: what the front makes of the sources, and what a run of the program means.
+#![tactic(auto)]
+
+mod decl;
+mod lambda;
+mod laws;
+mod operation;
+mod program;
+mod tree;
+mod types;
+mod values;
+
+pub use decl::{Access, CoreDecl, DeclKind, Modifiers};
+pub use lambda::{
+    BlockLocal, CapturedParameter, CoreParameter, Lambda, Locals, Mode, Scope, ScopeAt, Target,
+    ThisAt, Via,
+};
+pub use laws::{
+    one_place_is_given_up, only_things_are_owned, ready_sources_are_dispatched, runs_go_on,
+    things_are_numbered,
+};
+pub use operation::Operation;
+pub use program::Core;
+pub use tree::{CoreExpr, CoreStmt};
+pub use types::{
+    Accessor, ClassInfo, CoreMethod, CorePlace, CoreProperty, CoreSignal, CoreType, DelegateInfo,
+    Given, Making, Slot, StructInfo,
+};
+pub use values::{Arithmetic, Callee, Comparison, LoopCall, Part, TextCall};
