@@ -38,12 +38,20 @@ pub enum Expr {
 pub enum Primary {
     Parenthesized(Boxed<Expr>),
     /// The call whose end is waited for.
-    Yield(Boxed<Expr>),
+    YieldCall(Boxed<Expr>),
     New(NameTree, Items<Argument>),
-    /// The element, the length in the brackets, and the list in braces.
-    NewArray(Element, Option<Boxed<Expr>>, Option<Items<Expr>>),
+    NewArray(NewArray),
     /// `{ .. }`, which only an initialiser is.
     List(Items<Expr>),
+}
+
+/// The length in the brackets and the list in braces, where they are written.
+#[cycle(code)]
+#[derive(Drop)]
+pub struct NewArray {
+    pub element: Element,
+    pub length: Option<Boxed<Expr>>,
+    pub list: Option<Items<Expr>>,
 }
 
 #[cycle(code)]
@@ -69,8 +77,8 @@ pub enum Operation {
 #[cycle(code)]
 #[derive(Drop)]
 pub enum LambdaBody {
-    Expression(Boxed<Expr>),
-    Block(Block),
+    Value(Boxed<Expr>),
+    Code(Block),
 }
 
 /// What stands before the expression of an argument.
@@ -107,15 +115,23 @@ pub enum Stmt {
     Selection(Selection, Span),
     Iteration(Iteration, Span),
     Jump(Jump, Span),
-    /// The body, the clauses that catch, and what is done at last.
-    Try(Block, Items<Catch>, Option<Block>, Span),
+    Try(Try, Span),
 }
 
 #[cycle(code)]
 #[derive(Drop)]
 pub enum Selection {
-    If(Expr, Boxed<Stmt>, Option<Boxed<Stmt>>),
+    If(If),
     Switch(Expr, Items<Section>),
+}
+
+/// The condition, what is done where it holds, and what `else` stands before.
+#[cycle(code)]
+#[derive(Drop)]
+pub struct If {
+    pub test: Expr,
+    pub yes: Boxed<Stmt>,
+    pub no: Option<Boxed<Stmt>>,
 }
 
 #[cycle(code)]
@@ -123,9 +139,27 @@ pub enum Selection {
 pub enum Iteration {
     While(Expr, Boxed<Stmt>),
     Do(Boxed<Stmt>, Expr),
-    /// What begins it, the condition, the expressions after each turn, and the body.
-    For(ForStart, Option<Expr>, Items<Expr>, Boxed<Stmt>),
-    Foreach(DeclaredType, Identifier, Expr, Boxed<Stmt>),
+    For(For),
+    Foreach(Foreach),
+}
+
+/// What begins it, the condition, the expressions after each turn, and the body.
+#[cycle(code)]
+#[derive(Drop)]
+pub struct For {
+    pub start: ForStart,
+    pub test: Option<Boxed<Expr>>,
+    pub steps: Items<Expr>,
+    pub body: Boxed<Stmt>,
+}
+
+#[cycle(code)]
+#[derive(Drop)]
+pub struct Foreach {
+    pub declared: DeclaredType,
+    pub name: Identifier,
+    pub over: Expr,
+    pub body: Boxed<Stmt>,
 }
 
 #[cycle(code)]
@@ -163,7 +197,7 @@ pub struct Declarator {
 #[cycle(code)]
 #[derive(Drop)]
 pub enum ForStart {
-    Local(Local),
+    Declared(Local),
     Exprs(Items<Expr>),
 }
 
@@ -188,6 +222,15 @@ pub enum Label {
 pub struct Caught {
     pub declared: TypeTree,
     pub name: Identifier,
+}
+
+/// The body, the clauses that catch, and what stands behind `finally`.
+#[cycle(code)]
+#[derive(Drop)]
+pub struct Try {
+    pub body: Block,
+    pub clauses: Items<Catch>,
+    pub last: Option<Block>,
 }
 
 #[cycle(code)]
