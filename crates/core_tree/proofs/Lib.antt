@@ -17,4 +17,5 @@ pub mod Passing
 pub mod Gone
 pub mod Figures
 pub mod Mixed
+pub mod Choosing
 pub mod Tidiness
