@@ -1,0 +1,14 @@
+pub mod Words
+pub mod Texts
+pub mod Taking
+pub mod Sound
+pub mod Law
+pub mod Moves
+pub mod Known
+pub mod Good
+pub mod Complete
+pub mod Main
+pub mod Sets
+pub mod Fits
+pub mod Ways
+pub mod Small

@@ -1,0 +1,7 @@
+pub mod Forms
+pub mod Follows
+pub mod Steps
+pub mod Reading
+pub mod Exact
+pub mod Fit
+pub mod Small
