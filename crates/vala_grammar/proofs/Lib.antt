@@ -1,0 +1,14 @@
+pub mod Finite
+pub mod Tables
+pub mod Where
+pub mod FitTypes
+pub mod FitTiers
+pub mod FitChains
+pub mod FitOperands
+pub mod FitNames
+pub mod FitBrackets
+pub mod FitStatements
+pub mod Texts
+pub mod Predictive
+pub mod Readers
+pub mod Readings
