@@ -1,0 +1,13 @@
+pub mod Embedded
+pub mod Finite
+pub mod Tables
+pub mod Where
+pub mod FitMembers
+pub mod FitTypes
+pub mod FitDeclarations
+pub mod Texts
+pub mod Predictive
+pub mod Readers
+pub mod Readings
+pub mod HeadReadings
+pub mod HeadsOnce

@@ -1,0 +1,9 @@
+pub mod Kinds
+pub mod Trees
+pub mod Parts
+pub mod Embed
+pub mod Grammar
+pub mod Tables
+pub mod Read
+pub mod Heads
+pub mod FileAnswer
