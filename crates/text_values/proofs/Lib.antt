@@ -1,0 +1,2 @@
+mod DenotedSteps
+mod DigitLemmas
