@@ -1,0 +1,12 @@
+pub mod Bytes
+pub mod Words
+pub mod Signs
+pub mod Spelling
+pub mod Numbers
+pub mod Texts
+pub mod Blanks
+pub mod Cut
+pub mod Tokens
+pub mod Written
+pub mod Laws
+pub mod Apart
