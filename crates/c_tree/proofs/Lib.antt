@@ -1,0 +1,8 @@
+mod AnswerLemmas
+mod LeastLemmas
+mod Tests
+mod FindValues
+mod FindStatements
+pub mod FindUnits
+mod Peel
+mod Texts
