@@ -1,0 +1,15 @@
+pub mod BlockLaws
+pub mod Peel
+pub mod Build
+pub mod Prints
+pub mod Undefined
+pub mod Things
+pub mod Objects
+pub mod Signals
+pub mod Holds
+pub mod Rows
+pub mod Whole
+pub mod Cases
+pub mod Arguments
+pub mod Meetings
+pub mod Orders
