@@ -1,5 +1,5 @@
 -- What the table of fits says as a whole.
-use Rattle.std.proofs.Common.{◌≡◌, ℕ, ◌<◌, ◌≤◌, true, false, [], ◌∷◌, Option, Some, None, refl, ◌∙◌, subst, arith, lit<}
+use Rattle.std.proofs.Common.{◌≡◌, ℕ, ◌<◌, ◌≤◌, true, false, [], ◌∷◌, Option, Some, None, refl, ◌∙◌, subst, arith, lit<, ◌↔◌, Bool, IsTrue, sym}
 use Rattle.std.proofs.lemmas.Bool.{eqb-true, leb-true}
 use Rattle.vala_types.specs.declared.types.IntKind.{IntKind}
 use Rattle.vala_types.specs.declared.types.IntKind.TheVariants.{Int32}
@@ -130,3 +130,9 @@ no_null_number ties a p = let g : false ≡ true = row_goes ties Null (Int a) p 
 
 pub no_null_struct : (ties : Ties) (a : ℕ) → ShapeFits ties Null (Struct a) → ⊥
 no_null_struct ties a p = let g : false ≡ true = row_goes ties Null (Struct a) p in cc
+
+-- two answers that are both as the table says are the same
+pub one_answer : (ties : Ties) (from to : VType) (a b : Bool) → (IsTrue a ↔ Fits ties from to) → (IsTrue b ↔ Fits ties from to) → a ≡ b
+one_answer ties from to true b f g = sym (g.1 (f.0 refl))
+one_answer ties from to false true f g = f.1 (g.0 refl)
+one_answer ties from to false false f g = refl

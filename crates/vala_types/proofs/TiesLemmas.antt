@@ -15,24 +15,9 @@ use Rattle.vala_types.specs.Tests.{has_base}
 abbrev is_near : Ties → ℕ → ℕ → ℕ → Bool
 is_near ties k base next = next == base || is_within ties k next base
 
-middle : (a b c : Bool) → a ≡ false → c ≡ false → (a || b || c) ≡ b
-middle true b c h g = cc
-middle false true c h g = refl
-middle false false c h g = g
-
 or_first : (a b : Bool) → a ≡ false → (a || b) ≡ b
 or_first true b h = cc
 or_first false b h = refl
-
-eqb-no : (a b : ℕ) → (a ≡ b → ⊥) → (a == b) ≡ false
-eqb-no a b apart = elim (cases_Bool (a == b)) [ inl h ↦ absurd (apart (eqb-true a b h)) | inr h ↦ h ]
-
--- where neither the first base nor the others lead there, the walk goes on at the first
-pub walk_on :
-    (ties : Ties) (k at base first : ℕ) (others : List ℕ) → bases_of ties at ≡ first ∷ others → (first ≡ base → ⊥)
-    → list_any (λ next. next == base || is_within ties k next base) others ≡ false → is_within ties (suc k) at base ≡ is_within ties k first base
-walk_on ties k at base first others e apart rest =
-    ap (list_any (is_near ties k base)) e ∙ middle (first == base) (is_within ties k first base) (list_any (is_near ties k base) others) (eqb-no first base apart) rest
 
 -- tests that agree, and one that follows from another, over a list
 any_same : (p q : ℕ → Bool) → ((x : ℕ) → p x ≡ q x) → (xs : List ℕ) → list_any p xs ≡ list_any q xs
@@ -55,7 +40,7 @@ within_more ties base (suc k) a h =
     any_more (is_near ties k base) (is_near ties (suc k) base) (λ x. or_more (x == base) (is_within ties k x base) (x == base) (is_within ties (suc k) x base) (λ e. e) (within_more ties base k x)) (bases_of ties a) h
 
 -- from a number without a row nothing is reached
-none_past : (ties : Ties) (base k a : ℕ) → length ties.rows ≤ a → is_within ties k a base ≡ false
+pub none_past : (ties : Ties) (base k a : ℕ) → length ties.rows ≤ a → is_within ties k a base ≡ false
 none_past ties base zero a h = refl
 none_past ties base (suc k) a h = ap (list_any (is_near ties k base)) (get_or_past ties.rows a [] h)
 

@@ -1,5 +1,6 @@
 pub mod Ranks
 pub mod Ties
+pub mod Walk
 pub mod Fits
 pub mod Changes
 pub mod Tests

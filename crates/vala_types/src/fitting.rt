@@ -129,6 +129,9 @@ fn shape_fits(ties: &Ties, from: Shape, to: Shape) -> bool
 
 /// Whether a value of one type goes into a place of another by itself. The types alone are looked at: that a constant goes
 /// into every type that holds it, and a method or lambda into a delegate, is told where expressions are typed.
+///
+/// The time is linear in the numbers of classes, interfaces and bases, whatever the bases are, circles included. No memory is
+/// taken, and a table of `MOST_ROWS` numbers stands on the stack.
 pub fn fits(ties: &Ties, from: &VType, to: &VType) -> bool
     ensures { IsTrue result ↔ Fits ties.now from.now to.now }
 {

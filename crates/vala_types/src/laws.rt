@@ -1,6 +1,6 @@
 // The laws on fits and changes. The bodies do nothing: the clauses are theorems.
 
-ghost use Rattle.std.specs.Prelude.{◌≡◌, ◌<◌, ℕ, Option, Some, None, true, false};
+ghost use Rattle.std.specs.Prelude.{◌≡◌, ◌<◌, ◌↔◌, ℕ, Bool, IsTrue, Option, Some, None, true, false};
 ghost use Rattle.std.specs.Bool.{Decides};
 ghost use Rattle.vala_types.specs.declared.types.IntKind.{IntKind};
 ghost use Rattle.vala_types.specs.declared.types.Shape.{Shape};
@@ -20,6 +20,11 @@ ghost use Rattle.vala_types.specs.Ties.{HasBase};
 pub fn bases_are_found()
     ensures found { (ties : Ties) (number base : ℕ) → Decides (has_base ties number base) (HasBase ties number base) }
     ensures joined { (ties : Ties) (a b c : ℕ) → HasBase ties a b → HasBase ties b c → HasBase ties a c }
+{}
+
+/// What `fits` promises leaves it one answer.
+pub fn one_answer()
+    ensures { (ties : Ties) (from to : VType) (a b : Bool) → (IsTrue a ↔ Fits ties from to) → (IsTrue b ↔ Fits ties from to) → a ≡ b }
 {}
 
 /// A value of each type fits a place of that type, and the marks do not count.

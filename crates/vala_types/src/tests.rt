@@ -2,9 +2,10 @@
 
 use crate::fitting::fits;
 use crate::owners::{Change, owner_change};
-use crate::ties::{Bases, Rows, Ties};
+use crate::ties::{Bases, MOST_ROWS, Rows, Ties};
 use crate::types::{IntKind, Item, ItemShape, Shape, VType};
 use std::alloc::Global;
+use std::process::Abort;
 use std::test::Fail;
 
 const OBJECT: Shape = Shape::Class(0);
@@ -71,17 +72,22 @@ fn bases(alloc: Global, list: &[u32]) -> Result<Bases, Fail> {
     })
 }
 
+fn ties(rt: &impl Abort, list: Vec<Bases>) -> Ties {
+    assert!(rt; list.len() <= MOST_ROWS);
+    Ties {
+        object: 0,
+        rows: Rows { list },
+    }
+}
+
 // `Animal : Object`, `Dog : Animal, Loud`, `Named : Object`, `Loud : Named`, `Puppy : Dog`, `MainLoop`, and two in a circle.
-fn animals(alloc: Global) -> Result<Ties, Fail> {
+fn animals(rt: &impl Abort, alloc: Global) -> Result<Ties, Fail> {
     let rows: [&[u32]; 9] = [&[], &[0], &[1, 4], &[0], &[3], &[2], &[], &[8], &[7]];
     let mut list = Vec::new(alloc);
     for row in rows {
         list.push(bases(alloc, row)?)?;
     }
-    Ok(Ties {
-        object: 0,
-        rows: Rows { list },
-    })
+    Ok(ties(rt, list))
 }
 
 fn place(shape: Shape, owned: bool) -> VType {
@@ -94,7 +100,7 @@ fn place(shape: Shape, owned: bool) -> VType {
 
 #[test]
 fn fits_by_the_table(rt: HostRuntime) -> Result<(), Fail> {
-    let ties = animals(rt.alloc())?;
+    let ties = animals(&rt, rt.alloc())?;
     let cases = [
         (Shape::Void, Shape::Void, true),
         (Shape::Bool, Shape::Bool, true),
@@ -186,7 +192,7 @@ fn change(ties: &Ties, from: &VType, to: &VType) -> Option<Change> {
 // and one that is not fresh into each.
 #[test]
 fn changes_by_the_table(rt: HostRuntime) -> Result<(), Fail> {
-    let ties = animals(rt.alloc())?;
+    let ties = animals(&rt, rt.alloc())?;
     let keep = Change::Keep;
     let moved = Change::Move;
     let copied = Change::CopyStruct;
@@ -224,5 +230,58 @@ fn changes_by_the_table(rt: HostRuntime) -> Result<(), Fail> {
             assert_eq!(rt; found, Some(want), "{from:?} into {to:?}, {fresh} {owned}");
         }
     }
+    Ok(())
+}
+
+fn fits_class(ties: &Ties, from: u32, base: u32) -> bool {
+    fits(
+        ties,
+        &place(Shape::Class(from), true),
+        &place(Shape::Class(base), true),
+    )
+}
+
+// Each of the interfaces has the two of the next rung as its bases, so that 2^40 ways lead down.
+#[test]
+fn a_ladder_is_walked_once(rt: HostRuntime) -> Result<(), Fail> {
+    let alloc = rt.alloc();
+    let mut list = Vec::new(alloc);
+    for rung in 0u32..40 {
+        let next = [2 * rung + 2, 2 * rung + 3];
+        list.push(bases(alloc, &next)?)?;
+        list.push(bases(alloc, &next)?)?;
+    }
+    let ladder = ties(&rt, list);
+    assert!(rt; fits_class(&ladder, 0, 81));
+    assert!(rt; !fits_class(&ladder, 0, 1));
+    assert!(rt; !fits_class(&ladder, 0, 99));
+    Ok(())
+}
+
+#[test]
+fn a_long_chain_is_walked_to_its_end(rt: HostRuntime) -> Result<(), Fail> {
+    let alloc = rt.alloc();
+    let mut list = Vec::new(alloc);
+    for number in 0u32..100_000 {
+        list.push(bases(alloc, &[number + 1])?)?;
+    }
+    let chain = ties(&rt, list);
+    assert!(rt; fits_class(&chain, 0, 100_000));
+    assert!(rt; !fits_class(&chain, 1, 0));
+    assert!(rt; !fits_class(&chain, 0, 100_001));
+    Ok(())
+}
+
+#[test]
+fn a_circle_is_walked_once(rt: HostRuntime) -> Result<(), Fail> {
+    let alloc = rt.alloc();
+    let mut list = Vec::new(alloc);
+    for number in 0u32..1000 {
+        list.push(bases(alloc, &[(number + 1) % 1000, (number + 7) % 1000])?)?;
+    }
+    let circle = ties(&rt, list);
+    assert!(rt; fits_class(&circle, 0, 999));
+    assert!(rt; !fits_class(&circle, 0, 1000));
+    assert!(rt; !fits_class(&circle, u32::MAX, 0));
     Ok(())
 }
