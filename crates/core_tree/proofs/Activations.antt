@@ -1,5 +1,5 @@
 -- Activations: what is copied into them, results, sources that go, and the order of completion.
-use Rattle.std.specs.Prelude.{refl, ℕ, true, false, List, [], ◌∷◌, ◌++◌, Some, None, codes, pos}
+use Rattle.std.specs.Prelude.{refl, ℕ, true, List, [], ◌∷◌, ◌++◌, Some, None, codes, pos}
 use Rattle.vg_base.specs.declared.event.Event.TheVariants.{Made, Gone, Dispatch}
 use Rattle.vg_base.specs.declared.event.ThingKind.TheVariants.{Object, Text, Scope, Activation}
 use Rattle.vg_base.specs.declared.event.VEnd.TheVariants.{Ended, Dead}
@@ -16,7 +16,7 @@ use Rattle.core_tree.specs.declared.tree.CoreStmt.{CoreStmt}
 use Rattle.core_tree.specs.declared.tree.CoreStmt.TheVariants as st
 use Rattle.core_tree.specs.declared.values.LoopCall.TheVariants as loop
 use Rattle.core_tree.specs.declared.values.TextCall.TheVariants as call_of
-use Rattle.core_tree.proofs.Build.{Row, here, owned, unowned, void, int, text, object, apply, number, literal, local, this, set, run, say, of, block, frame, by_value, method, plain_creation, object_class, class, program, quiet_world, new, line, keep, moved, copied, told, told_type, told_methods, new_told, by_text, act}
+use Rattle.core_tree.proofs.Build.{Row, here, owned, unowned, void, int, text, object, apply, number, literal, local, this, set, run, say, of, block, frame, by_value, method, plain_creation, object_class, class, program, quiet_world, new, line, keep, moved, copied, told, told_type, told_methods, new_told, by_text, act, bound_to}
 use Rattle.core_tree.specs.declared.types.CoreMethod.{CoreMethod}
 
 abbrev held_by : ℕ → ScopeAt
@@ -49,11 +49,7 @@ async m = record m { is_async = true }
 -- the callback of a method: a lambda with two parameters that captures
 abbrev callback : List CoreStmt → CoreExpr
 callback body =
-    moved act (e.Lambda (record {
-      locals = frame (by_value (unowned (shape.Class 0)) ∷ by_value (unowned shape.AsyncResult) ∷ []) [] void;
-      target = bound.Captures (held_by 0);
-      is_owning = true;
-    }) (block [] body) here)
+    moved act (e.Lambda (bound_to (frame (by_value (unowned (shape.Class 0)) ∷ by_value (unowned shape.AsyncResult) ∷ []) [] void) (bound.Captures (held_by 0))) (block [] body) here)
 
 -- class W : Object { public async void go (string a, string b) { yield; } }
 -- void main () { W w = new W (); string s = "s"; w.go.begin (s, s + "t"); }
@@ -63,7 +59,7 @@ copied_arguments =
     method (frame [] (object 1 ∷ text ∷ []) void) (block (of 0 (object 1) ∷ of 1 text ∷ []) (
     set (local 0 (object 1)) (moved (object 1) (new 1 1 []))
     ∷ set (local 1 text) (copied (literal (codes "s")))
-    ∷ run (apply (op.Begin 2 true false) (local 0 (object 1) ∷ local 1 text ∷ apply (op.TextFunction call_of.Concatenate) (local 1 text ∷ literal (codes "t") ∷ []) ∷ []))
+    ∷ run (apply (op.Begin 2 true here) (local 0 (object 1) ∷ local 1 text ∷ apply (op.TextFunction call_of.Concatenate) (local 1 text ∷ literal (codes "t") ∷ []) ∷ []))
     ∷ []
     ))
     ∷ plain_creation
@@ -84,7 +80,7 @@ removes_itself =
     ∷ st.Block [] (record { hold = 1; variables = int ∷ []; outer = None; this = None; parameters = [] } ∷ []) (
     set (var (held_by 1) 0 int) (keep int (number 3))
     ∷ run (apply (op.Loop loop.IdleAdd) (moved act (
-    e.Lambda (record { locals = frame [] [] (owned shape.Bool); target = bound.Captures (held_by 1); is_owning = true }) (block [] (
+    e.Lambda (bound_to (frame [] [] (owned shape.Bool)) (bound.Captures (held_by 1))) (block [] (
     run (apply (op.Loop loop.SourceRemove) (number 1 ∷ []))
     ∷ say (codes "in") []
     ∷ say (codes "%d") (var at_target 0 int ∷ [])
@@ -116,7 +112,7 @@ waits_for_inner =
     st.Block (of 1 (object 2) ∷ []) (record { hold = 0; variables = main_loop ∷ []; outer = None; this = None; parameters = [] } ∷ []) (
     set (var (held_by 0) 0 main_loop) new_loop
     ∷ set (local 1 (object 2)) (moved (object 2) (new 2 3 []))
-    ∷ run (apply (op.Begin 5 true true) (local 1 (object 2) ∷ callback (quit (var at_target 0 main_loop) ∷ []) ∷ []))
+    ∷ run (apply (op.Begin 5 true here) (local 1 (object 2) ∷ callback (quit (var at_target 0 main_loop) ∷ []) ∷ []))
     ∷ run_loop (var (held_by 0) 0 main_loop)
     ∷ []
     ) here
@@ -146,7 +142,7 @@ result_not_taken =
     set (var (held_by 0) 0 main_loop) new_loop
     ∷ block (of 1 (object 2) ∷ []) (
     set (local 1 (object 2)) (moved (object 2) (new 2 3 []))
-    ∷ run (apply (op.Begin 5 true true) (local 1 (object 2) ∷ new 1 1 (by_text (codes "arg") ∷ []) ∷ callback (say (codes "cb") [] ∷ quit (var at_target 0 main_loop) ∷ []) ∷ []))
+    ∷ run (apply (op.Begin 5 true here) (local 1 (object 2) ∷ new 1 1 (by_text (codes "arg") ∷ []) ∷ callback (say (codes "cb") [] ∷ quit (var at_target 0 main_loop) ∷ []) ∷ []))
     ∷ []
     )
     ∷ run_loop (var (held_by 0) 0 main_loop)

@@ -19,7 +19,9 @@ use Rattle.vala_types.specs.declared.owners.Change.TheVariants as change
 use Rattle.core_tree.specs.declared.program.Core.{Core}
 use Rattle.core_tree.specs.declared.lambda.BlockLocal.{BlockLocal}
 use Rattle.core_tree.specs.declared.lambda.CoreParameter.{CoreParameter}
+use Rattle.core_tree.specs.declared.lambda.Lambda.{Lambda}
 use Rattle.core_tree.specs.declared.lambda.Locals.{Locals}
+use Rattle.core_tree.specs.declared.lambda.Mode.{Mode}
 use Rattle.core_tree.specs.declared.lambda.Mode.TheVariants as mode
 use Rattle.core_tree.specs.declared.lambda.Target.{Target}
 use Rattle.core_tree.specs.declared.lambda.ThisAt.TheVariants as from
@@ -28,6 +30,7 @@ use Rattle.core_tree.specs.declared.operation.Operation.TheVariants as op
 use Rattle.core_tree.specs.declared.tree.CoreExpr.{CoreExpr}
 use Rattle.core_tree.specs.declared.tree.CoreExpr.TheVariants as e
 use Rattle.core_tree.specs.declared.tree.CoreStmt.{CoreStmt}
+use Rattle.core_tree.specs.declared.tree.SectionLabel.{SectionLabel}
 use Rattle.core_tree.specs.declared.tree.CoreStmt.TheVariants as st
 use Rattle.core_tree.specs.declared.types.CoreMethod.{CoreMethod}
 use Rattle.core_tree.specs.declared.types.CorePlace.{CorePlace}
@@ -37,6 +40,7 @@ use Rattle.core_tree.specs.declared.types.CoreType.{CoreType}
 use Rattle.core_tree.specs.declared.types.CoreType.TheVariants as declared
 use Rattle.core_tree.specs.declared.types.Making.{Making}
 use Rattle.core_tree.specs.declared.types.Making.TheVariants as making
+use Rattle.core_tree.specs.declared.values.Callee.{Callee}
 use Rattle.core_tree.specs.declared.values.Callee.TheVariants as callee
 
 abbrev pub here : Span
@@ -116,14 +120,17 @@ block locals body = st.Block locals [] body here
 abbrev pub frame : List CoreParameter → List VType → VType → Locals
 frame parameters others result = record { parameters = parameters; others = others; result = result }
 
+abbrev pub parameter : VType → Mode → CoreParameter
+parameter kind how = record { kind = kind; mode = how; at = here }
+
 abbrev pub by_value : VType → CoreParameter
-by_value kind = record { kind = kind; mode = mode.Value }
+by_value kind = parameter kind mode.Value
 
 abbrev pub method : Locals → CoreStmt → CoreMethod
-method locals body = record { symbol = 0; locals = locals; is_async = false; body = body ∷ []; making = making.Nothing }
+method locals body = record { symbol = Some 0; locals = locals; is_async = false; body = body ∷ []; making = making.Nothing }
 
 abbrev pub creation : Locals → Making → CoreStmt → CoreMethod
-creation locals begins body = record { symbol = 0; locals = locals; is_async = false; body = body ∷ []; making = begins }
+creation locals begins body = record { symbol = Some 0; locals = locals; is_async = false; body = body ∷ []; making = begins }
 
 -- a creation method without parameters that does nothing
 abbrev pub plain_creation : CoreMethod
@@ -132,20 +139,32 @@ plain_creation = creation (frame [] [] void) (making.Object []) (block [] [])
 -- the class `Object`, which has the number 0
 abbrev pub object_class : CoreType
 object_class =
-    declared.Class (record { base = None; is_a = 0 ∷ []; cells = []; own = 0; initials = []; construct_properties = []; construct_blocks = []; destructor = None; slots = [] })
+    declared.Class (record { base = None; interfaces = []; is_a = 0 ∷ []; cells = []; own = 0; initials = []; construct_properties = []; construct_blocks = []; destructor = None; slots = [] })
 
 -- a class under `Object`, by its number, its cells, initialisers and destructor
 abbrev pub class : ℕ → List VType → List CoreStmt → Option ℕ → CoreType
 class n cells initials destructor =
-    declared.Class (record { base = Some 0; is_a = n ∷ 0 ∷ []; cells = cells; own = 0; initials = initials; construct_properties = []; construct_blocks = []; destructor = destructor; slots = [] })
+    declared.Class (record { base = Some 0; interfaces = []; is_a = n ∷ 0 ∷ []; cells = cells; own = 0; initials = initials; construct_properties = []; construct_blocks = []; destructor = destructor; slots = [] })
+
+-- an interface under `Object`, by its number
+abbrev pub interface : ℕ → CoreType
+interface n = declared.Interface (record { bases = 0 ∷ []; is_a = n ∷ 0 ∷ [] })
 
 abbrev pub static_field : VType → CorePlace
 static_field kind = record { symbol = 0; kind = kind; initial = [] }
 
+-- the labels of a section
+
+abbrev pub case_label : SectionLabel
+case_label = record { is_default = false; at = here }
+
+abbrev pub default_label : SectionLabel
+default_label = record { is_default = true; at = here }
+
 -- a program whose `main` is the method 0
 abbrev pub program : List CoreType → List CoreMethod → List CorePlace → Core
 program types methods statics =
-    record { decls = []; types = types; methods = methods; properties = []; signals = []; statics = statics; start = 0; tokens = 0 }
+    record { decls = []; types = types; origins = []; methods = methods; properties = []; signals = []; slots = []; statics = statics; start = 0; tokens = 0 }
 
 abbrev pub with_properties : Core → List CoreProperty → Core
 with_properties core ps = record core { properties = ps }
@@ -155,7 +174,11 @@ with_signals core ss = record core { signals = ss }
 
 -- the signal `notify` of `Object`, which has the number 0
 abbrev pub notify : CoreSignal
-notify = record { parameters = unowned shape.ParamSpec ∷ []; class_handler = None }
+notify = record { name = codes "notify"; declared_in = 0; symbol = None; parameters = unowned shape.ParamSpec ∷ []; class_handler = None }
+
+-- a signal, of which a run needs no more
+abbrev pub signal : List VType → Option ℕ → CoreSignal
+signal parameters class_handler = record { name = codes "signal"; declared_in = 1; symbol = Some 0; parameters = parameters; class_handler = class_handler }
 
 abbrev pub quiet_world : World
 quiet_world = record { name = codes "a"; input = []; entries = [] }
@@ -164,11 +187,14 @@ quiet_world = record { name = codes "a"; input = []; entries = [] }
 abbrev pub new : ℕ → ℕ → List CoreExpr → CoreExpr
 new c m xs = apply (op.New c m) xs
 
+abbrev pub call_by : Callee → List CoreExpr → CoreExpr
+call_by to xs = apply (op.Call to here) xs
+
 abbrev pub call : ℕ → List CoreExpr → CoreExpr
-call m xs = apply (op.Call (callee.Static m)) xs
+call m xs = call_by (callee.Static m) xs
 
 abbrev pub call_on : CoreExpr → ℕ → List CoreExpr → CoreExpr
-call_on o m xs = apply (op.Call (callee.Method m)) (o ∷ xs)
+call_on o m xs = call_by (callee.Method m) (o ∷ xs)
 
 -- what is computed of a run: its trace after so many steps, its end, and what lives then
 pub record Row (core : Core) (w : World) (n : ℕ) (trace : List Event) (ended : VEnd) (live : List LiveRow) : Type 0 where
@@ -231,9 +257,13 @@ new_told bytes = moved told (new 1 1 (by_text bytes ∷ []))
 abbrev pub act : VType
 act = owned (shape.Delegate 9)
 
+-- a lambda that owns its target
+abbrev pub bound_to : Locals → Target → Lambda
+bound_to locals target = record { delegate = None; locals = locals; target = target; is_owning = true }
+
 abbrev pub lambda_at : ℕ → Target → List CoreStmt → CoreExpr
 lambda_at n target body =
-    e.Lambda (record { locals = frame [] [] void; target = target; is_owning = true }) (block [] body) (record { file = 0; start = n; «end» = n })
+    e.Lambda (bound_to (frame [] [] void) target) (block [] body) (record { file = 0; start = n; «end» = n })
 
 -- an error of the domain 8
 abbrev pub error_type : VType

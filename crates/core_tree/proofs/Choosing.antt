@@ -8,7 +8,7 @@ use Rattle.core_tree.specs.declared.tree.CoreExpr.{CoreExpr}
 use Rattle.core_tree.specs.declared.tree.CoreExpr.TheVariants as e
 use Rattle.core_tree.specs.declared.tree.CoreStmt.{CoreStmt}
 use Rattle.core_tree.specs.declared.tree.CoreStmt.TheVariants as st
-use Rattle.core_tree.proofs.Build.{Row, here, unowned, owned, void, number, literal, null, local, assign, set, run, say, block, frame, method, object_class, program, quiet_world, call, line, keep}
+use Rattle.core_tree.proofs.Build.{Row, here, unowned, owned, void, number, literal, null, local, assign, set, say, block, frame, method, object_class, program, quiet_world, call, line, keep}
 
 abbrev bool : VType
 bool = owned shape.Bool

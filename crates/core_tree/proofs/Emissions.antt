@@ -12,7 +12,7 @@ use Rattle.core_tree.specs.declared.tree.CoreExpr.TheVariants as e
 use Rattle.core_tree.specs.declared.tree.CoreStmt.{CoreStmt}
 use Rattle.core_tree.specs.declared.types.Accessor.TheVariants as access
 use Rattle.core_tree.specs.declared.values.Callee.TheVariants as callee
-use Rattle.core_tree.proofs.Build.{Row, here, void, int, object, apply, number, local, static, this, field, assign, set, run, say, of, block, frame, by_value, method, plain_creation, object_class, class, static_field, program, with_properties, with_signals, notify, quiet_world, new, line, keep, moved}
+use Rattle.core_tree.proofs.Build.{Row, here, void, int, object, apply, number, local, static, this, field, assign, set, run, say, of, block, frame, by_value, method, plain_creation, object_class, class, static_field, program, with_properties, with_signals, notify, quiet_world, new, line, keep, moved, bound_to, signal}
 
 -- class S : Object { public signal void hit (int x); }
 -- S? s;
@@ -50,7 +50,7 @@ disconnected =
     ∷ method (frame (by_value int ∷ []) [] void) (prints (codes "three %d") [])
     ∷ []
     ) (static_field sender ∷ [])
-    ) (notify ∷ record { parameters = int ∷ []; class_handler = None } ∷ [])
+    ) (notify ∷ signal (int ∷ []) None ∷ [])
 
 pub disconnected_row : Row disconnected quiet_world 300 (Made Object ∷ line (codes "one 1") ∷ line (codes "one 2") ∷ line (codes "three 2") ∷ []) (Ended (pos 0)) (record { kind = Object; serial = 1; owners = 1 } ∷ [])
 unfolding Rattle.core_tree.specs.declared.tree.CoreExpr.TheViews.out-CoreStmt denote.Hole.Carrier.out Rattle.core_tree.specs.declared.tree.CoreExpr.TheBlock.shown-the_row-CoreStmt-3 denote.Hole.Carrier.shown denote.Hole.Carrier.hidden Rattle.core_tree.specs.declared.tree.CoreExpr.TheViews.out-CoreExpr Rattle.std.specs.Fmt.digits
@@ -65,7 +65,7 @@ abbrev p_n : CoreExpr
 p_n = apply (op.Property 0) (p ∷ [])
 
 abbrev said_n : CoreExpr
-said_n = e.Lambda (record { locals = frame [] [] void; target = bound.Nothing; is_owning = true }) (block [] (say (codes "n") [] ∷ [])) here
+said_n = e.Lambda (bound_to (frame [] [] void) bound.Nothing) (block [] (say (codes "n") [] ∷ [])) here
 
 abbrev pub notified : Core
 notified =
@@ -73,7 +73,7 @@ notified =
     program (object_class ∷ class 1 (int ∷ []) (set (field this 0 int) (keep int (number 3)) ∷ []) None ∷ []) (
     method (frame [] (sender ∷ []) void) (block (of 0 sender ∷ []) (
     set p (moved sender (new 1 1 []))
-    ∷ run (apply (op.Connect 0 (Some (codes "n")) false false false callee.Delegate) (p ∷ said_n ∷ []))
+    ∷ run (apply (op.Connect 0 (Some (codes "n")) false false false (callee.Delegate None)) (p ∷ said_n ∷ []))
     ∷ assign int p_n (keep int (number 3))
     ∷ assign int p_n (keep int (number 4))
     ∷ say (codes "%d") (p_n ∷ [])
@@ -85,6 +85,8 @@ notified =
     ) (record {
       name = codes "n";
       kind = int;
+      declared_in = 1;
+      symbol = 0;
       getter = access.Automatic 0;
       is_get_owned = false;
       get_slot = None;

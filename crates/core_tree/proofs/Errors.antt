@@ -1,5 +1,5 @@
 -- An error that is carried through frames gives up what it leaves.
-use Rattle.std.specs.Prelude.{refl, ℕ, List, [], ◌∷◌, Some, codes, pos}
+use Rattle.std.specs.Prelude.{refl, ℕ, List, [], ◌∷◌, Some, codes, pos, None}
 use Rattle.vg_base.specs.declared.event.Event.TheVariants.{Made, Gone}
 use Rattle.vg_base.specs.declared.event.ThingKind.TheVariants.{Object, Text, Error}
 use Rattle.vg_base.specs.declared.event.VEnd.TheVariants.{Ended}
@@ -40,7 +40,7 @@ carried_error =
     program (object_class ∷ class 1 (text ∷ []) [] (Some 2) ∷ []) (
     method (frame [] (error ∷ []) void) (block [] (
     st.Try (block [] (run (call 4 (moved t (make (codes "a")) ∷ moved t (make (codes "b")) ∷ [])) ∷ [])) (
-    st.Catch (Some 2) (local 0 error ∷ []) (block (of 0 error ∷ []) (
+    st.Catch (Some 2) None (local 0 error ∷ []) (block (of 0 error ∷ []) (
     say (codes "caught %s") (apply (op.Part part.ErrorMessage) (local 0 error ∷ []) ∷ []) ∷ []
     )) here
     ∷ []

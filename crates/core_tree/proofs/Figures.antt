@@ -22,8 +22,11 @@ use Rattle.core_tree.specs.declared.values.TextCall.TheVariants as call_of
 use Rattle.core_tree.proofs.Build.{Row, here, owned, unowned, void, int, text, apply, number, null, local, changed, assign, set, say, of, block, frame, by_value, method, object_class, program, quiet_world, line, keep, moved}
 use Rattle.std.specs.Prelude.{negsuc, Ok, Err}
 use Rattle.core_tree.specs.Arithmetic.{calculate, wrap}
+use Rattle.core_tree.specs.State.{Property}
+use Rattle.core_tree.specs.Storing.{same_reference}
 use Rattle.core_tree.specs.Formats.{formatted, Integer, Written}
-use Rattle.core_tree.specs.Texts.{apply_text, Makes, Gives, Traps}
+use Rattle.core_tree.specs.Texts.{apply_text, as_int, or_minus_one, Makes, Gives, Traps}
+use Rattle.std.specs.Prelude.{Some}
 
 -- Integers
 
@@ -53,6 +56,12 @@ or_of_negative = refl
 
 pub character_has_a_sign : wrap kind.Char (pos 200) ≡ negsuc 55
 character_has_a_sign = refl
+
+-- References
+
+-- void told (Object o, ParamSpec p) { print ("%d\n", p == p ? 1 : 0); } prints 1
+pub property_is_itself : same_reference (Property (codes "n")) (Property (codes "n")) ≡ true
+property_is_itself = refl
 
 -- Formats
 
@@ -89,6 +98,12 @@ found_behind_start = refl
 
 pub not_found : apply_text call_of.IndexOf (Written (codes "abab") ∷ Written (codes "x") ∷ Integer (pos 0) ∷ []) ≡ Gives (negsuc 0)
 not_found = refl
+
+pub place_is_modulo : or_minus_one 4294967290 (Some 8) ≡ Gives (pos 2)
+place_is_modulo = refl
+
+pub length_is_modulo : as_int 6442450943 ≡ Gives (pos 2147483647)
+length_is_modulo = refl
 
 pub suffix : apply_text call_of.HasSuffix (Written (codes "abc") ∷ Written (codes "bc") ∷ []) ≡ Gives (pos 1)
 suffix = refl

@@ -21,7 +21,7 @@ use Rattle.core_tree.specs.declared.values.Callee.TheVariants as callee
 use Rattle.core_tree.specs.declared.values.Comparison.TheVariants as compare
 use Rattle.core_tree.specs.declared.values.LoopCall.TheVariants as loop
 use Rattle.core_tree.specs.declared.values.Part.TheVariants as part
-use Rattle.core_tree.proofs.Build.{Row, here, unowned, void, int, object, apply, number, null, local, static, this, field, changed, assign, set, run, say, of, block, frame, by_value, method, plain_creation, object_class, class, static_field, program, with_signals, notify, quiet_world, new, call_on, line, keep, moved, told, told_type, told_methods, new_told, told_name, lambda_at, act, error_type}
+use Rattle.core_tree.proofs.Build.{Row, here, unowned, void, int, object, apply, number, null, local, static, this, field, changed, assign, set, run, say, of, block, frame, by_value, method, plain_creation, object_class, class, static_field, program, with_signals, notify, quiet_world, new, call_on, line, keep, moved, told, told_type, told_methods, new_told, told_name, lambda_at, act, error_type, bound_to, call_by, signal}
 use Rattle.core_tree.specs.declared.lambda.Target.{Target}
 use Rattle.core_tree.specs.declared.types.CoreMethod.{CoreMethod}
 use Rattle.core_tree.specs.declared.types.CoreSignal.{CoreSignal}
@@ -42,7 +42,7 @@ abbrev var : ScopeAt → ℕ → VType → CoreExpr
 var at n type = apply (op.Captured at n type) []
 
 abbrev without_parameters : CoreSignal
-without_parameters = record { parameters = []; class_handler = None }
+without_parameters = signal [] None
 
 abbrev async : CoreMethod → CoreMethod
 async m = record m { is_async = true }
@@ -152,7 +152,7 @@ argument_gone =
     ∷ method (frame (by_value (lent 1) ∷ []) [] void) (block [] (say (codes "%s") (told_name (local 0 (lent 1)) ∷ []) ∷ []))
     ∷ []
     ) (static_field told ∷ [])
-    ) (notify ∷ record { parameters = lent 1 ∷ []; class_handler = None } ∷ [])
+    ) (notify ∷ signal (lent 1 ∷ []) None ∷ [])
 
 pub argument_gone_row : Row argument_gone quiet_world 400 (Made Object ∷ Made Object ∷ Made Text ∷ line (codes "~h") ∷ Gone 3 ∷ Gone 2 ∷ []) Dead (record { kind = Object; serial = 1; owners = 2 } ∷ [])
 unfolding Rattle.core_tree.specs.declared.tree.CoreExpr.TheViews.out-CoreStmt denote.Hole.Carrier.out Rattle.core_tree.specs.declared.tree.CoreExpr.TheBlock.shown-the_row-CoreStmt-3 denote.Hole.Carrier.shown denote.Hole.Carrier.hidden Rattle.core_tree.specs.declared.tree.CoreExpr.TheViews.out-CoreExpr Rattle.std.specs.Fmt.digits
@@ -165,10 +165,10 @@ argument_gone_row = record { says = refl; ends = refl; lives = refl }
 --   s.hit (0);
 -- }
 abbrev with_number : Target → ℕ → List CoreStmt → CoreExpr
-with_number target n body = e.Lambda (record { locals = frame (by_value int ∷ []) [] void; target = target; is_owning = true }) (block [] body) (record { file = 0; start = n; «end» = n })
+with_number target n body = e.Lambda (bound_to (frame (by_value int ∷ []) [] void) target) (block [] body) (record { file = 0; start = n; «end» = n })
 
 abbrev connect_lambda : CoreExpr → CoreExpr → CoreStmt
-connect_lambda o f = run (apply (op.Connect 1 None false false true callee.Delegate) (o ∷ f ∷ []))
+connect_lambda o f = run (apply (op.Connect 1 None false false true (callee.Delegate None)) (o ∷ f ∷ []))
 
 abbrev pub emitted_within : Core
 emitted_within =
@@ -194,7 +194,7 @@ emitted_within =
     ∷ plain_creation
     ∷ []
     ) []
-    ) (notify ∷ record { parameters = int ∷ []; class_handler = None } ∷ [])
+    ) (notify ∷ signal (int ∷ []) None ∷ [])
 
 pub emitted_within_row : Row emitted_within quiet_world 400 (Made Scope ∷ Made Object ∷ line (codes "a0") ∷ line (codes "a1") ∷ line (codes "new1") ∷ Gone 2 ∷ Gone 1 ∷ []) (Ended (pos 0)) ([])
 unfolding Rattle.core_tree.specs.declared.tree.CoreExpr.TheViews.out-CoreStmt denote.Hole.Carrier.out Rattle.core_tree.specs.declared.tree.CoreExpr.TheBlock.shown-the_row-CoreStmt-3 denote.Hole.Carrier.shown denote.Hole.Carrier.hidden Rattle.core_tree.specs.declared.tree.CoreExpr.TheViews.out-CoreExpr Rattle.std.specs.Fmt.digits
@@ -213,13 +213,13 @@ second_end =
     st.Block [] (record { hold = 0; variables = object 0 ∷ c_type ∷ []; outer = None; this = None; parameters = [] } ∷ []) (
     set (var (held_by 0) 0 (object 0)) (moved (object 0) (apply (op.Loop loop.New) []))
     ∷ set (var (held_by 0) 1 c_type) (moved c_type (new 1 1 []))
-    ∷ run (apply (op.Begin 2 true true) (var (held_by 0) 1 c_type ∷ moved act (
-    e.Lambda (record { locals = frame (by_value (lent 0) ∷ by_value (unowned shape.AsyncResult) ∷ []) (int ∷ error_type ∷ []) void; target = bound.Captures (held_by 0); is_owning = true }) (block [] (
+    ∷ run (apply (op.Begin 2 true here) (var (held_by 0) 1 c_type ∷ moved act (
+    e.Lambda (bound_to (frame (by_value (lent 0) ∷ by_value (unowned shape.AsyncResult) ∷ []) (int ∷ error_type ∷ []) void) (bound.Captures (held_by 0))) (block [] (
     block (of 2 int ∷ []) (
     set (local 2 int) (keep int (number 0))
     ∷ st.For (apply (op.CompareNumbers compare.Less) (local 2 int ∷ number 2 ∷ [])) (run (apply (op.Increment arithmetic.Add kind.Int32 true false) (e.PlaceAndValue (local 2 int) here ∷ [])) ∷ []) (block [] (
-    st.Try (block [] (say (codes "%d") (apply (op.End 2 true) (var at_target 1 c_type ∷ local 1 (unowned shape.AsyncResult) ∷ []) ∷ []) ∷ []))
-    (st.Catch (Some 8) (local 3 error_type ∷ []) (block (of 3 error_type ∷ []) (say (codes "%s") (apply (op.Part part.ErrorMessage) (local 3 error_type ∷ []) ∷ []) ∷ [])) here ∷ []) [] here
+    st.Try (block [] (say (codes "%d") (apply (op.End 2 true here) (var at_target 1 c_type ∷ local 1 (unowned shape.AsyncResult) ∷ []) ∷ []) ∷ []))
+    (st.Catch (Some 8) None (local 3 error_type ∷ []) (block (of 3 error_type ∷ []) (say (codes "%s") (apply (op.Part part.ErrorMessage) (local 3 error_type ∷ []) ∷ []) ∷ [])) here ∷ []) [] here
     ∷ []
     )) here
     ∷ []
@@ -248,13 +248,13 @@ resumed_by_call =
     program (object_class ∷ class 1 (act ∷ []) [] (Some 3) ∷ []) (
     method (frame [] (c_type ∷ []) void) (block (of 0 c_type ∷ []) (
     set (local 0 c_type) (moved c_type (new 1 1 []))
-    ∷ run (apply (op.Begin 2 true false) (local 0 c_type ∷ []))
-    ∷ run (apply (op.Call callee.Delegate) (field (local 0 c_type) 0 act ∷ []))
+    ∷ run (apply (op.Begin 2 true here) (local 0 c_type ∷ []))
+    ∷ run (call_by (callee.Delegate (Some 9)) (field (local 0 c_type) 0 act ∷ []))
     ∷ say (codes "end") []
     ∷ []
     ))
     ∷ plain_creation
-    ∷ async (method (frame [] [] void) (block [] (assign act (field this 0 act) (keep act (apply op.Callback [])) ∷ st.Yield here ∷ say (codes "back") [] ∷ [])))
+    ∷ async (method (frame [] [] void) (block [] (assign act (field this 0 act) (keep act (apply (op.Callback 2 here) [])) ∷ st.Yield here ∷ say (codes "back") [] ∷ [])))
     ∷ method (frame [] [] void) (block [] (say (codes "~W") [] ∷ []))
     ∷ []
     ) []
@@ -270,13 +270,13 @@ captured_error =
     method (frame [] (act ∷ object 0 ∷ []) void) (block (of 0 act ∷ []) (
     set (local 0 act) (keep act null)
     ∷ st.Try (block [] (st.Throw (moved error_type (apply (op.NewError 8 (pos 0) (codes "a")) [])) here ∷ []))
-    (st.Catch (Some 8) (var (held_by 1) 0 error_type ∷ []) (
+    (st.Catch (Some 8) None (var (held_by 1) 0 error_type ∷ []) (
     st.Block [] (record { hold = 1; variables = error_type ∷ []; outer = None; this = None; parameters = [] } ∷ []) (
     assign act (local 0 act) (moved act (lambda_at 1 (bound.Captures (held_by 1)) (say (codes "%s") (apply (op.Part part.ErrorMessage) (var at_target 0 error_type ∷ []) ∷ []) ∷ [])))
     ∷ []
     ) here
     ) here ∷ []) [] here
-    ∷ run (apply (op.Call callee.Delegate) (local 0 act ∷ []))
+    ∷ run (call_by (callee.Delegate (Some 9)) (local 0 act ∷ []))
     ∷ []
     ))
     ∷ []

@@ -1,5 +1,5 @@
 -- Lambdas share the variables that they capture, and their scope goes with the last of them.
-use Rattle.std.specs.Prelude.{refl, ℕ, true, false, [], ◌∷◌, None, codes, pos}
+use Rattle.std.specs.Prelude.{refl, ℕ, true, false, [], ◌∷◌, None, codes, pos, Some}
 use Rattle.vg_base.specs.declared.event.Event.TheVariants.{Made, Gone}
 use Rattle.vg_base.specs.declared.event.ThingKind.TheVariants.{Object, Scope}
 use Rattle.vg_base.specs.declared.event.VEnd.TheVariants.{Ended}
@@ -18,7 +18,7 @@ use Rattle.core_tree.specs.declared.tree.CoreStmt.{CoreStmt}
 use Rattle.core_tree.specs.declared.tree.CoreStmt.TheVariants as st
 use Rattle.core_tree.specs.declared.values.Arithmetic.TheVariants as arithmetic
 use Rattle.core_tree.specs.declared.values.Callee.TheVariants as callee
-use Rattle.core_tree.proofs.Build.{Row, here, owned, void, int, object, apply, number, null, local, this, field, assign, set, run, say, of, block, frame, method, plain_creation, object_class, class, program, quiet_world, new, call_on, line, keep, moved}
+use Rattle.core_tree.proofs.Build.{Row, here, owned, void, int, object, apply, number, null, local, this, field, assign, set, run, say, of, block, frame, method, plain_creation, object_class, class, program, quiet_world, new, call_on, line, keep, moved, bound_to, call_by}
 
 -- delegate void Act ();
 -- class Box : Object {
@@ -44,13 +44,13 @@ n_in at = apply (op.Captured at 0 int) []
 -- a lambda that captures from the block's scope
 abbrev lambda : ℕ → CoreStmt → CoreExpr
 lambda at body =
-    e.Lambda (record { locals = frame [] [] void; target = bound.Captures in_block; is_owning = true }) body (record { file = 0; start = at; «end» = at })
+    e.Lambda (bound_to (frame [] [] void) (bound.Captures in_block)) body (record { file = 0; start = at; «end» = at })
 
 abbrev scope_of_n : BlockScope
 scope_of_n = record { hold = 0; variables = int ∷ []; outer = None; this = None; parameters = [] }
 
 abbrev call_delegate : CoreExpr → CoreStmt
-call_delegate x = run (apply (op.Call callee.Delegate) (x ∷ []))
+call_delegate x = run (call_by (callee.Delegate (Some 2)) (x ∷ []))
 
 abbrev b : CoreExpr
 b = local 0 box

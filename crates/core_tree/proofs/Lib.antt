@@ -18,4 +18,17 @@ pub mod Gone
 pub mod Figures
 pub mod Mixed
 pub mod Choosing
+pub mod Finally
+pub mod Switching
+pub mod Temporaries
+pub mod Orders
+pub mod Parking
+pub mod Sources
+pub mod Handlers
 pub mod Tidiness
+pub mod Counts
+pub mod Owned
+pub mod Moved
+pub mod Kept
+pub mod Keeps
+pub mod RunLaws

@@ -20,7 +20,7 @@ use Rattle.core_tree.specs.declared.types.Making.TheVariants as making
 use Rattle.core_tree.specs.declared.values.Arithmetic.TheVariants as arithmetic
 use Rattle.core_tree.specs.declared.values.Comparison.TheVariants as compare
 use Rattle.core_tree.specs.declared.values.LoopCall.TheVariants as loop
-use Rattle.core_tree.proofs.Build.{Row, Printed, here, owned, unowned, void, int, text, object, apply, number, literal, local, this, field, assign, set, run, say, of, block, frame, by_value, method, creation, plain_creation, object_class, class, program, quiet_world, scripted, new, line, text_param, keep, moved, copied}
+use Rattle.core_tree.proofs.Build.{Row, Printed, here, owned, unowned, void, int, text, object, apply, number, literal, local, this, field, assign, set, run, say, of, block, frame, by_value, method, creation, plain_creation, object_class, class, program, quiet_world, scripted, new, line, text_param, keep, moved, copied, bound_to}
 
 -- The variables of the scope of `main`
 abbrev main_loop : VType
@@ -73,19 +73,15 @@ is_zero x = apply (op.CompareNumbers compare.Equal) (x ∷ number 0 ∷ [])
 -- the callback that ends the method of the object in a variable
 abbrev callback : ℕ → CoreExpr
 callback n =
-    e.Lambda (record {
-      locals = frame (by_value (unowned (shape.Class 0)) ∷ by_value (unowned shape.AsyncResult) ∷ []) [] void;
-      target = bound.Captures here_at;
-      is_owning = true;
-    }) (block [] (
-    run (apply (op.End 2 true) (var there_at n w_type ∷ local 1 (unowned shape.AsyncResult) ∷ []))
+    e.Lambda (bound_to (frame (by_value (unowned (shape.Class 0)) ∷ by_value (unowned shape.AsyncResult) ∷ []) [] void) (bound.Captures here_at)) (block [] (
+    run (apply (op.End 2 true here) (var there_at n w_type ∷ local 1 (unowned shape.AsyncResult) ∷ []))
     ∷ count_down
     ∷ st.If (is_zero (var there_at 1 int)) (quit (var there_at 0 main_loop)) (st.Empty here) here
     ∷ []
     )) (record { file = 0; start = n; «end» = n })
 
 abbrev begin : ℕ → CoreStmt
-begin n = run (apply (op.Begin 2 true true) (var here_at n w_type ∷ moved (owned (shape.Delegate 2)) (callback n) ∷ []))
+begin n = run (apply (op.Begin 2 true here) (var here_at n w_type ∷ moved (owned (shape.Delegate 2)) (callback n) ∷ []))
 
 abbrev new_w : List ℕ → CoreExpr
 new_w bytes = moved w_type (new 1 1 (keep (unowned shape.Text) (literal bytes) ∷ []))
@@ -111,7 +107,7 @@ side_by_side =
     set i (keep int (number 0))
     ∷ st.For (apply (op.CompareNumbers compare.Less) (i ∷ number 3 ∷ []))
     (run (apply (op.Increment arithmetic.Add kind.Int32 true false) (e.PlaceAndValue i here ∷ [])) ∷ [])
-    (block [] (add_idle (apply op.Callback []) ∷ st.Yield here ∷ say (codes "%s%d") (field this 0 text ∷ i ∷ []) ∷ [])) here
+    (block [] (add_idle (apply (op.Callback 2 here) []) ∷ st.Yield here ∷ say (codes "%s%d") (field this 0 text ∷ i ∷ []) ∷ [])) here
     ∷ []
     ))) { is_async = true }
     ∷ []
@@ -137,7 +133,7 @@ never_completes =
     method (frame [] (main_loop ∷ w_type ∷ []) void) (block (of 0 main_loop ∷ of 1 w_type ∷ []) (
     set (local 0 main_loop) (moved main_loop new_loop)
     ∷ set (local 1 w_type) (moved w_type (new 1 1 []))
-    ∷ run (apply (op.Begin 2 true false) (local 1 w_type ∷ []))
+    ∷ run (apply (op.Begin 2 true here) (local 1 w_type ∷ []))
     ∷ run_loop (local 0 main_loop)
     ∷ []
     ))
@@ -162,13 +158,13 @@ truth = owned shape.Bool
 abbrev function : ℕ → List CoreStmt → CoreExpr
 function n body =
     moved (owned (shape.Delegate 2)) (
-    e.Lambda (record { locals = frame [] [] truth; target = bound.Nothing; is_owning = true }) (block [] (body ++ st.Return (number 0 ∷ []) here ∷ [])) (record { file = 0; start = n; «end» = n })
+    e.Lambda (bound_to (frame [] [] truth) bound.Nothing) (block [] (body ++ st.Return (number 0 ∷ []) here ∷ [])) (record { file = 0; start = n; «end» = n })
     )
 
 abbrev capturing : ℕ → List CoreStmt → CoreExpr
 capturing n body =
     moved (owned (shape.Delegate 2)) (
-    e.Lambda (record { locals = frame [] [] truth; target = bound.Captures here_at; is_owning = true }) (block [] (body ++ st.Return (number 0 ∷ []) here ∷ [])) (record { file = 0; start = n; «end» = n })
+    e.Lambda (bound_to (frame [] [] truth) (bound.Captures here_at)) (block [] (body ++ st.Return (number 0 ∷ []) here ∷ [])) (record { file = 0; start = n; «end» = n })
     )
 
 abbrev timeout : ℕ → CoreExpr → CoreStmt

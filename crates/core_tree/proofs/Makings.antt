@@ -27,6 +27,7 @@ abbrev one_of_three : ℕ → List ℕ → List VType → List ℕ → ℕ → C
 one_of_three base is_a cells bytes block_method =
     declared.Class (record {
       base = Some base;
+      interfaces = [];
       is_a = is_a;
       cells = cells;
       own = base;
@@ -41,7 +42,7 @@ abbrev says : List ℕ → CoreMethod
 says bytes = method (frame [] [] void) (block [] (run (said bytes) ∷ []))
 
 abbrev begins : ℕ → List ℕ → CoreMethod
-begins base bytes = creation (frame [] [] void) (making.Base base []) (block [] (run (said bytes) ∷ []))
+begins base bytes = creation (frame [] [] void) (making.Base base [] here) (block [] (run (said bytes) ∷ []))
 
 abbrev pub three_classes : Core
 three_classes =

@@ -25,7 +25,7 @@ use Rattle.core_tree.specs.declared.values.Arithmetic.TheVariants as arithmetic
 use Rattle.core_tree.specs.declared.values.Callee.TheVariants as callee
 use Rattle.core_tree.specs.declared.values.Comparison.TheVariants as compare
 use Rattle.core_tree.specs.declared.values.LoopCall.TheVariants as loop
-use Rattle.core_tree.proofs.Build.{Row, here, owned, unowned, void, int, text, object, apply, number, literal, null, local, changed, assign, set, run, say, of, block, frame, method, creation, plain_creation, object_class, class, program, with_properties, with_signals, notify, quiet_world, new, line, keep, moved, copied, lambda_at, act}
+use Rattle.core_tree.proofs.Build.{Row, here, owned, unowned, void, int, text, object, apply, number, literal, null, local, changed, assign, set, run, say, of, block, frame, method, creation, plain_creation, object_class, class, program, with_properties, with_signals, notify, quiet_world, new, line, keep, moved, copied, lambda_at, act, bound_to, case_label, default_label, signal, interface}
 use Rattle.core_tree.specs.declared.types.CoreMethod.{CoreMethod}
 use Rattle.core_tree.specs.declared.types.CoreProperty.{CoreProperty}
 use Rattle.core_tree.specs.declared.types.CoreType.{CoreType}
@@ -66,8 +66,8 @@ loops =
     ∷ assign int i (keep int (number 0))
     ∷ st.For (less i 3) (counted i ∷ []) (
     st.Switch i (
-    st.Section (number 1 ∷ []) false (block [] (say (codes "one") [] ∷ st.Break here ∷ [])) here
-    ∷ st.Section [] true (block [] (st.If (equal i 2) (st.Continue here) none here ∷ say (codes "other") [] ∷ st.Break here ∷ [])) here
+    st.Section (number 1 ∷ []) (case_label ∷ []) (block [] (say (codes "one") [] ∷ st.Break here ∷ [])) here
+    ∷ st.Section [] (default_label ∷ []) (block [] (st.If (equal i 2) (st.Continue here) none here ∷ say (codes "other") [] ∷ st.Break here ∷ [])) here
     ∷ []
     ) here
     ) here
@@ -96,7 +96,7 @@ abbrev if_so : CoreExpr → CoreExpr
 if_so x = e.Choice x (number 1) (number 0) here
 
 abbrev derived : CoreType
-derived = declared.Class (record { base = Some 1; is_a = 2 ∷ 1 ∷ 0 ∷ []; cells = []; own = 0; initials = []; construct_properties = []; construct_blocks = []; destructor = None; slots = [] })
+derived = declared.Class (record { base = Some 1; interfaces = []; is_a = 2 ∷ 1 ∷ 0 ∷ []; cells = []; own = 0; initials = []; construct_properties = []; construct_blocks = []; destructor = None; slots = [] })
 
 abbrev pub types : Core
 types =
@@ -110,7 +110,7 @@ types =
     ∷ []
     ))
     ∷ plain_creation
-    ∷ creation (frame [] [] void) (making.Base 1 []) (block [] [])
+    ∷ creation (frame [] [] void) (making.Base 1 [] here) (block [] [])
     ∷ []
     ) []
 
@@ -167,7 +167,7 @@ struct_elements_row = record { says = refl; ends = refl; lives = refl }
 -- void main () { S s = new S (); s.hit.connect_after (after); s.hit.connect (before); s.hit (); }
 abbrev with_slots : ℕ → ℕ → CoreType
 with_slots slot member =
-    declared.Class (record { base = Some 0; is_a = 1 ∷ 0 ∷ []; cells = []; own = 0; initials = []; construct_properties = []; construct_blocks = []; destructor = None; slots = record { slot = slot; member = member } ∷ [] })
+    declared.Class (record { base = Some 0; interfaces = []; is_a = 1 ∷ 0 ∷ []; cells = []; own = 0; initials = []; construct_properties = []; construct_blocks = []; destructor = None; slots = record { slot = slot; member = member } ∷ [] })
 
 abbrev prints : List ℕ → CoreMethod
 prints bytes = method (frame [] [] void) (block [] (say bytes [] ∷ []))
@@ -187,7 +187,7 @@ phases =
     ))
     ∷ plain_creation ∷ prints (codes "class") ∷ prints (codes "before") ∷ prints (codes "after") ∷ []
     ) []
-    ) (notify ∷ record { parameters = []; class_handler = Some 5 } ∷ [])
+    ) (notify ∷ signal [] (Some 5) ∷ [])
 
 pub phases_row : Row phases quiet_world 300 (Made Object ∷ line (codes "before") ∷ line (codes "class") ∷ line (codes "after") ∷ Gone 1 ∷ []) (Ended (pos 0)) ([])
 unfolding Rattle.core_tree.specs.declared.tree.CoreExpr.TheViews.out-CoreStmt denote.Hole.Carrier.out Rattle.core_tree.specs.declared.tree.CoreExpr.TheBlock.shown-the_row-CoreStmt-3 denote.Hole.Carrier.shown denote.Hole.Carrier.hidden Rattle.core_tree.specs.declared.tree.CoreExpr.TheViews.out-CoreExpr Rattle.std.specs.Fmt.digits
@@ -197,12 +197,13 @@ phases_row = record { says = refl; ends = refl; lives = refl }
 -- class A : Object, I { public int n { get; set; } }
 -- void main () { I i = new A (); i.notify["n"].connect (() => { print ("n\n"); }); i.n = 2; print ("%d\n", i.n); }
 abbrev property : Rattle.core_tree.specs.declared.types.Accessor.TheVariants.the_data → Option ℕ → Option ℕ → CoreProperty
-property accessor get set_ = record { name = codes "n"; kind = int; getter = accessor; is_get_owned = false; get_slot = get; setter = accessor; set_slot = set_; is_construct = false; default = [] }
+property accessor get set_ = record { name = codes "n"; kind = int; declared_in = 1; symbol = 0; getter = accessor; is_get_owned = false; get_slot = get; setter = accessor; set_slot = set_; is_construct = false; default = [] }
 
 abbrev implementing : CoreType
 implementing =
     declared.Class (record {
       base = Some 0;
+      interfaces = 2 ∷ [];
       is_a = 1 ∷ 0 ∷ 2 ∷ [];
       cells = int ∷ [];
       own = 0;
@@ -222,10 +223,10 @@ n_through = apply (op.Property 0) (local 0 interface_type ∷ [])
 abbrev pub property_of_interface : Core
 property_of_interface =
     with_signals (with_properties (
-    program (object_class ∷ implementing ∷ declared.Other ∷ []) (
+    program (object_class ∷ implementing ∷ interface 2 ∷ []) (
     method (frame [] (interface_type ∷ []) void) (block (of 0 interface_type ∷ []) (
     set (local 0 interface_type) (moved interface_type (new 1 1 []))
-    ∷ run (apply (op.Connect 0 (Some (codes "n")) false false false callee.Delegate) (local 0 interface_type ∷ lambda_at 1 bound.Nothing (say (codes "n") [] ∷ []) ∷ []))
+    ∷ run (apply (op.Connect 0 (Some (codes "n")) false false false (callee.Delegate None)) (local 0 interface_type ∷ lambda_at 1 bound.Nothing (say (codes "n") [] ∷ []) ∷ []))
     ∷ assign int n_through (keep int (number 2))
     ∷ say (codes "%d") (n_through ∷ [])
     ∷ []
@@ -256,7 +257,7 @@ timeout_stays =
     set (var held_by 0 (object 0)) (moved (object 0) (apply (op.Loop loop.New) []))
     ∷ set (var held_by 1 int) (keep int (number 0))
     ∷ run (apply (op.Loop loop.TimeoutAdd) (number 5 ∷ moved act (
-    e.Lambda (record { locals = frame [] [] (owned shape.Bool); target = bound.Captures held_by; is_owning = true }) (block [] (
+    e.Lambda (bound_to (frame [] [] (owned shape.Bool)) (bound.Captures held_by)) (block [] (
     counted (var at_target 1 int)
     ∷ say (codes "%d") (var at_target 1 int ∷ [])
     ∷ st.If (equal (var at_target 1 int) 3) (run (apply (op.Loop loop.Quit) (var at_target 0 (object 0) ∷ []))) none here

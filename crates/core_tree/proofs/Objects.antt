@@ -19,7 +19,7 @@ use Rattle.core_tree.specs.declared.values.Arithmetic.TheVariants as arithmetic
 use Rattle.core_tree.specs.declared.values.Callee.TheVariants as callee
 use Rattle.core_tree.specs.declared.values.Part.TheVariants as part
 use Rattle.core_tree.specs.declared.values.TextCall.TheVariants as call_of
-use Rattle.core_tree.proofs.Build.{Row, here, owned, unowned, void, int, text, object, apply, number, literal, null, local, static, this, field, changed, place, assign, set, run, say, of, block, frame, by_value, method, creation, plain_creation, object_class, class, static_field, program, with_properties, with_signals, notify, quiet_world, new, line, keep, moved, copied, told_type, told_methods, told_name, by_text, lambda_at, error_type}
+use Rattle.core_tree.proofs.Build.{Row, here, owned, unowned, void, int, text, object, apply, number, literal, null, local, static, this, field, changed, place, assign, set, run, say, of, block, frame, by_value, method, creation, plain_creation, object_class, class, static_field, program, with_properties, with_signals, notify, quiet_world, new, line, keep, moved, copied, told_type, told_methods, told_name, by_text, lambda_at, error_type, signal}
 use Rattle.core_tree.specs.declared.types.CoreProperty.{CoreProperty}
 use Rattle.core_tree.specs.declared.types.CoreType.TheVariants as declared
 use Rattle.core_tree.specs.declared.types.CoreType.{CoreType}
@@ -30,7 +30,7 @@ lent = unowned (shape.Class 1)
 -- a class with a base, cells of which its own begin there, and a destructor
 abbrev derived : ℕ → ℕ → List VType → ℕ → Option ℕ → List ℕ → CoreType
 derived n base cells own destructor constructs =
-    declared.Class (record { base = Some base; is_a = n ∷ base ∷ 0 ∷ []; cells = cells; own = own; initials = []; construct_properties = constructs; construct_blocks = []; destructor = destructor; slots = [] })
+    declared.Class (record { base = Some base; interfaces = []; is_a = n ∷ base ∷ 0 ∷ []; cells = cells; own = own; initials = []; construct_properties = constructs; construct_blocks = []; destructor = destructor; slots = [] })
 
 -- a property with a text that both accessors reach by themselves
 abbrev text_property : ℕ → Bool → CoreProperty
@@ -38,6 +38,8 @@ text_property cell is_construct =
     record {
       name = codes "n";
       kind = text;
+      declared_in = 1;
+      symbol = 0;
       getter = access.Automatic cell;
       is_get_owned = false;
       get_slot = None;
@@ -63,7 +65,7 @@ temporaries_of_base =
     ++ creation (frame (by_value lent ∷ []) [] void) (making.Object (
     record { property = 0; value = apply (op.TextFunction call_of.Concatenate) (told_name (local 0 lent) ∷ literal (codes "!") ∷ []) } ∷ []
     )) (block [] (say (codes "A rest %s") (told_name (local 0 lent) ∷ []) ∷ []))
-    ∷ creation (frame [] [] void) (making.Base 3 (keep lent (new 1 1 (by_text (codes "arg") ∷ [])) ∷ [])) (block [] (say (codes "B rest") [] ∷ []))
+    ∷ creation (frame [] [] void) (making.Base 3 (keep lent (new 1 1 (by_text (codes "arg") ∷ [])) ∷ []) here) (block [] (say (codes "B rest") [] ∷ []))
     ∷ []
     ) []
     ) (text_property 0 true ∷ [])) (notify ∷ [])
@@ -80,14 +82,14 @@ making_throws =
     program (object_class ∷ told_type ∷ derived 2 0 [] 0 (Some 5) [] ∷ derived 3 2 [] 0 (Some 6) [] ∷ []) (
     method (frame [] (object 3 ∷ error_type ∷ []) void) (block [] (
     st.Try (block (of 0 (object 3) ∷ []) (set (local 0 (object 3)) (moved (object 3) (new 3 4 [])) ∷ []))
-    (st.Catch (Some 8) (local 1 error_type ∷ []) (block (of 1 error_type ∷ []) (say (codes "%s") (apply (op.Part part.ErrorMessage) (local 1 error_type ∷ []) ∷ []) ∷ [])) here ∷ []) [] here
+    (st.Catch (Some 8) None (local 1 error_type ∷ []) (block (of 1 error_type ∷ []) (say (codes "%s") (apply (op.Part part.ErrorMessage) (local 1 error_type ∷ []) ∷ []) ∷ [])) here ∷ []) [] here
     ∷ []
     ))
     ∷ told_methods
     ++ creation (frame (by_value lent ∷ []) [] void) (making.Object []) (block [] (
     say (codes "A rest") [] ∷ st.Throw (moved error_type (apply (op.NewError 8 (pos 0) (codes "x")) [])) here ∷ []
     ))
-    ∷ creation (frame [] [] void) (making.Base 3 (keep lent (new 1 1 (by_text (codes "arg") ∷ [])) ∷ [])) (block [] (say (codes "B rest") [] ∷ []))
+    ∷ creation (frame [] [] void) (making.Base 3 (keep lent (new 1 1 (by_text (codes "arg") ∷ [])) ∷ []) here) (block [] (say (codes "B rest") [] ∷ []))
     ∷ method (frame [] [] void) (block [] (say (codes "~A") [] ∷ []))
     ∷ method (frame [] [] void) (block [] (say (codes "~B") [] ∷ []))
     ∷ []
@@ -105,14 +107,14 @@ emission_while_ending =
     program (object_class ∷ class 1 [] [] (Some 2) ∷ []) (
     method (frame [] (object 1 ∷ []) void) (block (of 0 (object 1) ∷ []) (
     set (local 0 (object 1)) (moved (object 1) (new 1 1 []))
-    ∷ run (apply (op.Connect 1 None false false false callee.Delegate) (local 0 (object 1) ∷ lambda_at 1 bound.Nothing (say (codes "heard") [] ∷ []) ∷ []))
+    ∷ run (apply (op.Connect 1 None false false false (callee.Delegate None)) (local 0 (object 1) ∷ lambda_at 1 bound.Nothing (say (codes "heard") [] ∷ []) ∷ []))
     ∷ []
     ))
     ∷ plain_creation
     ∷ method (frame [] [] void) (block [] (say (codes "in") [] ∷ run (apply (op.Emit 1) (this ∷ [])) ∷ say (codes "out") [] ∷ []))
     ∷ []
     ) []
-    ) (notify ∷ record { parameters = []; class_handler = None } ∷ [])
+    ) (notify ∷ signal [] None ∷ [])
 
 pub emission_while_ending_row : Row emission_while_ending quiet_world 200 (Made Object ∷ line (codes "in") ∷ []) Dead (record { kind = Object; serial = 1; owners = 0 } ∷ [])
 unfolding Rattle.core_tree.specs.declared.tree.CoreExpr.TheViews.out-CoreStmt denote.Hole.Carrier.out Rattle.core_tree.specs.declared.tree.CoreExpr.TheBlock.shown-the_row-CoreStmt-3 denote.Hole.Carrier.shown denote.Hole.Carrier.hidden Rattle.core_tree.specs.declared.tree.CoreExpr.TheViews.out-CoreExpr Rattle.std.specs.Fmt.digits
@@ -168,7 +170,7 @@ written_property =
     ))
     ∷ []
     ) []
-    ) (record { name = codes "n"; kind = int; getter = access.Written 2; is_get_owned = false; get_slot = None; setter = access.Written 3; set_slot = None; is_construct = false; default = [] } ∷ [])) (notify ∷ [])
+    ) (record { name = codes "n"; kind = int; declared_in = 1; symbol = 0; getter = access.Written 2; is_get_owned = false; get_slot = None; setter = access.Written 3; set_slot = None; is_construct = false; default = [] } ∷ [])) (notify ∷ [])
 
 pub written_property_row : Row written_property quiet_world 600 (Made Object ∷ line (codes "set") ∷ line (codes "get") ∷ line (codes "6") ∷ line (codes "get") ∷ line (codes "set") ∷ line (codes "6") ∷ line (codes "get") ∷ line (codes "set") ∷ line (codes "get") ∷ line (codes "30") ∷ Gone 1 ∷ []) (Ended (pos 0)) ([])
 unfolding Rattle.core_tree.specs.declared.tree.CoreExpr.TheViews.out-CoreStmt denote.Hole.Carrier.out Rattle.core_tree.specs.declared.tree.CoreExpr.TheBlock.shown-the_row-CoreStmt-3 denote.Hole.Carrier.shown denote.Hole.Carrier.hidden Rattle.core_tree.specs.declared.tree.CoreExpr.TheViews.out-CoreExpr Rattle.std.specs.Fmt.digits
@@ -191,7 +193,7 @@ setter_ends_object =
     ∷ method (frame (by_value int ∷ []) [] void) (block [] (assign (object 1) (static 0 (object 1)) (keep (object 1) null) ∷ say (codes "set") [] ∷ []))
     ∷ []
     ) (static_field (object 1) ∷ [])
-    ) (record { name = codes "n"; kind = int; getter = access.Missing; is_get_owned = false; get_slot = None; setter = access.Written 2; set_slot = None; is_construct = false; default = [] } ∷ [])) (notify ∷ [])
+    ) (record { name = codes "n"; kind = int; declared_in = 1; symbol = 0; getter = access.Missing; is_get_owned = false; get_slot = None; setter = access.Written 2; set_slot = None; is_construct = false; default = [] } ∷ [])) (notify ∷ [])
 
 pub setter_ends_object_row : Row setter_ends_object quiet_world 300 (Made Object ∷ Gone 1 ∷ line (codes "set") ∷ []) Dead ([])
 unfolding Rattle.core_tree.specs.declared.tree.CoreExpr.TheViews.out-CoreStmt denote.Hole.Carrier.out Rattle.core_tree.specs.declared.tree.CoreExpr.TheBlock.shown-the_row-CoreStmt-3 denote.Hole.Carrier.shown denote.Hole.Carrier.hidden Rattle.core_tree.specs.declared.tree.CoreExpr.TheViews.out-CoreExpr Rattle.std.specs.Fmt.digits

@@ -23,7 +23,7 @@ use Rattle.core_tree.specs.declared.types.Making.TheVariants as making
 use Rattle.core_tree.specs.declared.values.Callee.TheVariants as callee
 use Rattle.core_tree.specs.declared.values.Comparison.TheVariants as compare
 use Rattle.core_tree.specs.declared.values.Part.TheVariants as part
-use Rattle.core_tree.proofs.Build.{Row, here, owned, unowned, void, int, text, object, apply, number, literal, null, local, static, this, field, place, assign, set, run, say, of, block, frame, method, creation, plain_creation, object_class, class, static_field, program, with_signals, notify, quiet_world, new, call, call_on, line, text_param, keep, moved, copied, told, told_type, told_methods, new_told, told_name, lambda_at}
+use Rattle.core_tree.proofs.Build.{Row, here, owned, unowned, void, int, text, object, apply, number, literal, null, local, static, this, field, place, assign, set, run, say, of, block, frame, method, creation, plain_creation, object_class, class, static_field, program, with_signals, notify, quiet_world, new, call, call_on, line, text_param, keep, moved, copied, told, told_type, told_methods, new_told, told_name, lambda_at, parameter, call_by, signal}
 use Rattle.core_tree.specs.declared.lambda.CoreParameter.{CoreParameter}
 use Rattle.core_tree.specs.declared.lambda.Mode.TheVariants as mode
 use Rattle.core_tree.specs.declared.types.CoreType.{CoreType}
@@ -93,7 +93,7 @@ struct_moved_row = record { says = refl; ends = refl; lives = refl }
 -- void f (out string? o, string s) { o = null; Act a = () => { print ("%s\n", s); }; a (); }
 -- void main () { string? t = "a"; f (out t, t); }
 abbrev out_place : VType → CoreParameter
-out_place type = record { kind = type; mode = mode.Out }
+out_place type = parameter type mode.Out
 
 abbrev pub emptied_first : Core
 emptied_first =
@@ -121,7 +121,7 @@ abbrev c_type : VType
 c_type = object 1
 
 abbrev ref_place : VType → CoreParameter
-ref_place type = record { kind = type; mode = mode.Ref }
+ref_place type = parameter type mode.Ref
 
 abbrev ref_program : List VType → CoreStmt → Core
 ref_program locals body =
@@ -167,17 +167,17 @@ null_before_dead_row = record { says = refl; ends = refl; lives = refl }
 -- void main () { B b = new B (); }
 abbrev with_slot : ℕ → ℕ → List VType → List CoreStmt → ℕ → ℕ → CoreType
 with_slot n base cells initials destructor f =
-    declared.Class (record { base = Some base; is_a = n ∷ base ∷ 0 ∷ []; cells = cells; own = 0; initials = initials; construct_properties = []; construct_blocks = []; destructor = Some destructor; slots = record { slot = 0; member = f } ∷ [] })
+    declared.Class (record { base = Some base; interfaces = []; is_a = n ∷ base ∷ 0 ∷ []; cells = cells; own = 0; initials = initials; construct_properties = []; construct_blocks = []; destructor = Some destructor; slots = record { slot = 0; member = f } ∷ [] })
 
 abbrev ends_with : List ℕ → List CoreStmt
-ends_with format = say format (apply (op.Call (callee.Virtual 0)) (this ∷ []) ∷ []) ∷ []
+ends_with format = say format (call_by (callee.Virtual 0) (this ∷ []) ∷ []) ∷ []
 
 abbrev pub virtual_while_ending : Core
 virtual_while_ending =
     program (object_class ∷ with_slot 1 0 [] [] 4 3 ∷ with_slot 2 1 (text ∷ []) (set (field this 0 text) (copied (literal (codes "b"))) ∷ []) 6 5 ∷ []) (
     method (frame [] (object 2 ∷ []) void) (block (of 0 (object 2) ∷ []) (set (local 0 (object 2)) (moved (object 2) (new 2 2 [])) ∷ []))
     ∷ plain_creation
-    ∷ creation (frame [] [] void) (making.Base 1 []) (block [] [])
+    ∷ creation (frame [] [] void) (making.Base 1 [] here) (block [] [])
     ∷ method (frame [] [] text) (block [] (st.Return (copied (literal (codes "A")) ∷ []) here ∷ []))
     ∷ method (frame [] [] void) (block [] (ends_with (codes "~A %s")))
     ∷ method (frame [] [] text) (block [] (
@@ -225,7 +225,7 @@ disconnects_itself =
     ∷ set (var (held_by 0) 1 ulong) (keep ulong (number 0))
     ∷ st.Block [] (record { hold = 1; variables = told ∷ []; outer = Some (held_by 0); this = None; parameters = [] } ∷ []) (
     set (var (held_by 1) 0 told) (new_told (codes "t"))
-    ∷ assign ulong (var (held_by 0) 1 ulong) (keep ulong (apply (op.Connect 1 None false false false callee.Delegate) (var (held_by 0) 0 s_type ∷ lambda_at 1 (bound.Captures (held_by 1)) (
+    ∷ assign ulong (var (held_by 0) 1 ulong) (keep ulong (apply (op.Connect 1 None false false false (callee.Delegate None)) (var (held_by 0) 0 s_type ∷ lambda_at 1 (bound.Captures (held_by 1)) (
     run (apply op.DisconnectId (var (at_target 1) 0 s_type ∷ var (at_target 1) 1 ulong ∷ []))
     ∷ say (codes "still %s") (told_name (var (at_target 0) 0 told) ∷ [])
     ∷ []
@@ -240,7 +240,7 @@ disconnects_itself =
     )
     ∷ told_methods ++ plain_creation ∷ []
     ) []
-    ) (notify ∷ record { parameters = []; class_handler = None } ∷ [])
+    ) (notify ∷ signal [] None ∷ [])
 
 pub disconnects_itself_row : Row disconnects_itself quiet_world 500 (Made Scope ∷ Made Object ∷ Made Scope ∷ Made Object ∷ Made Text ∷ line (codes "still t") ∷ line (codes "~t") ∷ Gone 5 ∷ Gone 4 ∷ Gone 3 ∷ line (codes "after") ∷ Gone 2 ∷ Gone 1 ∷ []) (Ended (pos 0)) ([])
 unfolding Rattle.core_tree.specs.declared.tree.CoreExpr.TheViews.out-CoreStmt denote.Hole.Carrier.out Rattle.core_tree.specs.declared.tree.CoreExpr.TheBlock.shown-the_row-CoreStmt-3 denote.Hole.Carrier.shown denote.Hole.Carrier.hidden Rattle.core_tree.specs.declared.tree.CoreExpr.TheViews.out-CoreExpr Rattle.std.specs.Fmt.digits

@@ -4,7 +4,7 @@ use Rattle.std.specs.Prelude.{slice_get, cond}
 use Rattle.vg_base.proofs.MachineLaws.{run_is}
 use Rattle.core_tree.specs.State
 use Rattle.core_tree.specs.State.{Value, Null, Place, ThingState}
-use Rattle.core_tree.specs.Places.{held, held_in, put, put_in, give_up, release_thing, begin_ending, begin_ending_of}
+use Rattle.core_tree.specs.Places.{held, held_in, put, put_in, give_up, release_thing, begin_ending, begin_ending_of, is_live_now}
 use Rattle.core_tree.specs.Owners.{owned_by, is_unowned, thing_at}
 use Rattle.core_tree.specs.Step.{meaning, opening}
 use Rattle.core_tree.specs.Laws.{RunsGoOn, EmptiesOnePlace}
@@ -12,9 +12,13 @@ use Rattle.core_tree.specs.Laws.{RunsGoOn, EmptiesOnePlace}
 pub runs_go_on : RunsGoOn
 runs_go_on core w = run_is (meaning core).machine (opening core w)
 
+either : (s a c : State.State) (b : Bool) → a.places ≡ s.places → c.places ≡ s.places → (cond b a c).places ≡ s.places
+either s a c true h k = h
+either s a c false h k = k
+
 begin_keeps : (s : State.State) (t : ℕ) (x : Option ThingState) → (begin_ending_of s t x).places ≡ s.places
 begin_keeps s t None = refl
-begin_keeps s t (Some x) = refl
+begin_keeps s t (Some x) = either s _ _ (is_live_now x.status) refl refl
 
 ending_if : (s : State.State) (t : ℕ) (b : Bool) → (cond b (begin_ending s t) s).places ≡ s.places
 ending_if s t true = begin_keeps s t (thing_at s t)

@@ -2,7 +2,8 @@
 use Rattle.std.specs.Prelude.{refl, ℕ, true, false, List, [], ◌∷◌, ◌++◌, Some, None, codes, pos}
 use Rattle.vg_base.specs.declared.event.Event.TheVariants.{Made, Gone}
 use Rattle.vg_base.specs.declared.event.ThingKind.TheVariants.{Object, Text, Scope}
-use Rattle.vg_base.specs.declared.event.VEnd.TheVariants.{Ended, Dead}
+use Rattle.vg_base.specs.declared.event.TrapKind.TheVariants as trap
+use Rattle.vg_base.specs.declared.event.VEnd.TheVariants.{Ended, Trapped, Dead}
 use Rattle.vala_types.specs.declared.types.IntKind.TheVariants as kind
 use Rattle.vala_types.specs.declared.types.Shape.TheVariants as shape
 use Rattle.vala_types.specs.declared.types.VType.{VType}
@@ -22,7 +23,7 @@ use Rattle.core_tree.specs.declared.values.Arithmetic.TheVariants as arithmetic
 use Rattle.core_tree.specs.declared.values.Callee.TheVariants as callee
 use Rattle.core_tree.specs.declared.values.Comparison.TheVariants as compare
 use Rattle.core_tree.specs.declared.values.TextCall.TheVariants as call_of
-use Rattle.core_tree.proofs.Build.{Row, here, unowned, void, int, text, object, apply, number, literal, null, local, this, field, assign, set, run, say, of, block, frame, by_value, method, plain_creation, object_class, class, program, quiet_world, new, call, call_on, line, text_param, keep, moved, copied, told, told_type, told_methods, new_told, told_name, lambda_at, act}
+use Rattle.core_tree.proofs.Build.{Row, here, unowned, void, int, text, object, apply, number, literal, null, local, static, static_field, this, field, assign, set, run, say, of, block, frame, by_value, method, plain_creation, object_class, class, program, quiet_world, new, call, call_on, line, text_param, keep, moved, copied, told, told_type, told_methods, new_told, told_name, lambda_at, act, bound_to, call_by}
 use Rattle.core_tree.specs.declared.lambda.CapturedParameter.{CapturedParameter}
 
 abbrev held_by : ℕ → ScopeAt
@@ -38,7 +39,7 @@ abbrev scope : ℕ → List VType → List CapturedParameter → BlockScope
 scope hold variables parameters = record { hold = hold; variables = variables; outer = None; this = None; parameters = parameters }
 
 abbrev call_it : CoreExpr → CoreStmt
-call_it x = run (apply (op.Call callee.Delegate) (x ∷ []))
+call_it x = run (call_by (callee.Delegate (Some 9)) (x ∷ []))
 
 -- void f (owned T p) { T l = new T ("local"); T c = new T ("captured"); Act a = () => { print ("%s\n", c.n); }; a (); }
 -- void main () { f (new T ("param")); }
@@ -216,12 +217,12 @@ emptied_by_argument =
     ∷ st.Block [] (scope 1 (int ∷ []) [] ∷ []) (
     set (var (held_by 1) 0 int) (keep int (number 5))
     ∷ assign act (field (local 0 c_type) 0 act) (moved act (
-    e.Lambda (record { locals = frame (by_value int ∷ []) [] void; target = bound.Captures (held_by 1); is_owning = true })
+    e.Lambda (bound_to (frame (by_value int ∷ []) [] void) (bound.Captures (held_by 1)))
     (block [] (say (codes "in") [] ∷ say (codes "%d") (var (at_target 0) 0 int ∷ []) ∷ [])) here
     ))
     ∷ []
     ) here
-    ∷ run (apply (op.Call callee.Delegate) (field (local 0 c_type) 0 act ∷ keep int (call 2 (keep (unowned (shape.Class 1)) (local 0 c_type) ∷ [])) ∷ []))
+    ∷ run (call_by (callee.Delegate (Some 9)) (field (local 0 c_type) 0 act ∷ keep int (call 2 (keep (unowned (shape.Class 1)) (local 0 c_type) ∷ [])) ∷ []))
     ∷ []
     ))
     ∷ plain_creation
@@ -234,3 +235,50 @@ emptied_by_argument =
 pub emptied_by_argument_row : Row emptied_by_argument quiet_world 250 (Made Object ∷ Made Scope ∷ Gone 2 ∷ line (codes "in") ∷ []) Dead (record { kind = Object; serial = 1; owners = 1 } ∷ [])
 unfolding Rattle.core_tree.specs.declared.tree.CoreExpr.TheViews.out-CoreStmt denote.Hole.Carrier.out Rattle.core_tree.specs.declared.tree.CoreExpr.TheBlock.shown-the_row-CoreStmt-3 denote.Hole.Carrier.shown denote.Hole.Carrier.hidden Rattle.core_tree.specs.declared.tree.CoreExpr.TheViews.out-CoreExpr Rattle.std.specs.Fmt.digits
 emptied_by_argument_row = record { says = refl; ends = refl; lives = refl }
+
+-- unowned Act? last; Act? kept;
+-- class D : Object { ~D () { last (); } }
+-- void make () {
+--   D d = new D (); int o = 1;
+--   { int i = 2; kept = () => { print ("%d\n", i); Act b = () => { print ("%d\n", o); }; print ("made\n"); b (); if (d == null) print ("x"); }; }
+-- }
+-- void main () { make (); last = kept; kept = null; }
+-- (the inner scope is ending and has given up the outer one, which is ending too)
+abbrev pub outer_given_up : Core
+outer_given_up =
+    program (object_class ∷ class 1 [] [] (Some 2) ∷ []) (
+    method (frame [] [] void) (block [] (
+    run (call 3 [])
+    ∷ assign (unowned (shape.Delegate 9)) (static 0 (unowned (shape.Delegate 9))) (keep (unowned (shape.Delegate 9)) (static 1 act))
+    ∷ assign act (static 1 act) (keep act null)
+    ∷ []
+    ))
+    ∷ plain_creation
+    ∷ method (frame [] [] void) (block [] (call_it (static 0 (unowned (shape.Delegate 9))) ∷ []))
+    ∷ method (frame [] (object 0 ∷ object 0 ∷ []) void) (
+    st.Block [] (scope 0 (c_type ∷ int ∷ []) [] ∷ []) (
+    set (var (held_by 0) 0 c_type) (moved c_type (new 1 1 []))
+    ∷ set (var (held_by 0) 1 int) (keep int (number 1))
+    ∷ st.Block [] (record (scope 1 (int ∷ []) []) { outer = Some (held_by 0) } ∷ []) (
+    set (var (held_by 1) 0 int) (keep int (number 2))
+    ∷ assign act (static 1 act) (moved act (
+    e.Lambda (bound_to (frame [] (act ∷ []) void) (bound.Captures (held_by 1)))
+    (block (of 0 act ∷ []) (
+    say (codes "%d") (var (at_target 0) 0 int ∷ [])
+    ∷ set (local 0 act) (moved act (lambda_at 2 (bound.Captures (at_target 1)) (say (codes "%d") (var (at_target 0) 1 int ∷ []) ∷ [])))
+    ∷ say (codes "made") []
+    ∷ call_it (local 0 act)
+    ∷ []
+    )) here
+    ))
+    ∷ []
+    ) here
+    ∷ []
+    ) here
+    )
+    ∷ []
+    ) (static_field (unowned (shape.Delegate 9)) ∷ static_field act ∷ [])
+
+pub outer_given_up_row : Row outer_given_up quiet_world 300 (Made Scope ∷ Made Object ∷ Made Scope ∷ line (codes "2") ∷ []) (Trapped trap.Null) (record { kind = Scope; serial = 1; owners = 0 } ∷ record { kind = Object; serial = 2; owners = 0 } ∷ record { kind = Scope; serial = 3; owners = 0 } ∷ [])
+unfolding Rattle.core_tree.specs.declared.tree.CoreExpr.TheViews.out-CoreStmt denote.Hole.Carrier.out Rattle.core_tree.specs.declared.tree.CoreExpr.TheBlock.shown-the_row-CoreStmt-3 denote.Hole.Carrier.shown denote.Hole.Carrier.hidden Rattle.core_tree.specs.declared.tree.CoreExpr.TheViews.out-CoreExpr Rattle.std.specs.Fmt.digits
+outer_given_up_row = record { says = refl; ends = refl; lives = refl }

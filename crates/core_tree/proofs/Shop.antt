@@ -24,7 +24,7 @@ use Rattle.core_tree.specs.declared.values.Comparison.TheVariants as compare
 use Rattle.core_tree.specs.declared.values.LoopCall.TheVariants as loop
 use Rattle.core_tree.specs.declared.values.Part.TheVariants as part
 use Rattle.core_tree.specs.declared.values.TextCall.TheVariants as call_of
-use Rattle.core_tree.proofs.Build.{Printed, here, owned, unowned, void, int, text, object, apply, number, literal, local, this, field, changed, place, assign, set, run, say, of, block, frame, by_value, method, creation, plain_creation, object_class, class, program, with_properties, with_signals, notify, quiet_world, new, call_on, text_param, keep, moved, copied, by_text, act, error_type}
+use Rattle.core_tree.proofs.Build.{Printed, here, owned, unowned, void, int, text, object, apply, number, literal, local, this, field, changed, place, assign, set, run, say, of, block, frame, by_value, method, creation, plain_creation, object_class, class, program, with_properties, with_signals, notify, quiet_world, new, call_on, text_param, keep, moved, copied, by_text, act, error_type, bound_to, call_by, signal, interface}
 use Rattle.core_tree.specs.declared.types.CoreMethod.{CoreMethod}
 use Rattle.core_tree.specs.declared.types.CoreProperty.{CoreProperty}
 use Rattle.core_tree.specs.declared.types.CoreType.{CoreType}
@@ -93,6 +93,7 @@ abbrev type_2 : CoreType
 type_2 =
     declared.Class (record {
       base = Some 0;
+      interfaces = 1 ∷ [];
       is_a = 2 ∷ 0 ∷ 1 ∷ [];
       cells = text ∷ int ∷ int ∷ [];
       own = 0;
@@ -107,6 +108,7 @@ abbrev type_3 : CoreType
 type_3 =
     declared.Class (record {
       base = Some 2;
+      interfaces = [];
       is_a = 3 ∷ 2 ∷ 0 ∷ 1 ∷ [];
       cells = text ∷ int ∷ int ∷ [];
       own = 3;
@@ -124,14 +126,14 @@ abbrev name_of : CoreExpr → CoreExpr
 name_of o = apply (op.Property 0) (o ∷ [])
 
 abbrev price_of : CoreExpr → CoreExpr
-price_of o = apply (op.Call (callee.Virtual 0)) (o ∷ [])
+price_of o = call_by (callee.Virtual 0) (o ∷ [])
 
 abbrev calculate : Rattle.core_tree.specs.declared.values.Arithmetic.Arithmetic → CoreExpr → CoreExpr → CoreExpr
 calculate o a b = apply (op.Arithmetic o kind.Int32) (a ∷ b ∷ [])
 
 abbrev automatic : List ℕ → VType → ℕ → Bool → CoreProperty
 automatic name type cell is_construct =
-    record { name = name; kind = type; getter = access.Automatic cell; is_get_owned = false; get_slot = None; setter = access.Automatic cell; set_slot = None; is_construct = is_construct; default = [] }
+    record { name = name; kind = type; declared_in = 1; symbol = 0; getter = access.Automatic cell; is_get_owned = false; get_slot = None; setter = access.Automatic cell; set_slot = None; is_construct = is_construct; default = [] }
 
 abbrev lent_text : VType
 lent_text = unowned shape.Text
@@ -150,7 +152,7 @@ abbrev drop_item : CoreMethod
 drop_item = method (frame [] [] void) (block [] (say (codes "drop %s") (name_of this ∷ []) ∷ []))
 
 abbrev new_sale : CoreMethod
-new_sale = creation (frame (text_param ∷ by_value int ∷ []) [] void) (making.Base 1 (keep lent_text (local 0 lent_text) ∷ keep int (local 1 int) ∷ [])) (block [] [])
+new_sale = creation (frame (text_param ∷ by_value int ∷ []) [] void) (making.Base 1 (keep lent_text (local 0 lent_text) ∷ keep int (local 1 int) ∷ []) here) (block [] [])
 
 abbrev sale_price : CoreMethod
 sale_price = method (frame [] [] int) (block [] (st.Return (keep int (calculate arithmetic.Divide (call_on this 2 []) (number 2)) ∷ []) here ∷ []))
@@ -188,7 +190,7 @@ abbrev load : CoreMethod
 load = record (method (frame (by_value texts_type ∷ []) (int ∷ text ∷ int ∷ text ∷ []) int) (block (of 1 int ∷ []) (
     set (local 1 int) (keep int (number 0))
     ∷ st.Foreach (local 0 texts_type) texts (local 2 text) change.CopyText (block (of 2 text ∷ of 3 int ∷ of 4 text ∷ []) (
-    run (apply (op.Loop loop.TimeoutAdd) (number 10 ∷ apply op.Callback [] ∷ []))
+    run (apply (op.Loop loop.TimeoutAdd) (number 10 ∷ apply (op.Callback 9 here) [] ∷ []))
     ∷ st.Yield here
     ∷ set at (keep int (apply (op.TextFunction call_of.IndexOf) (line_text ∷ literal (codes ":") ∷ number 0 ∷ [])))
     ∷ st.If (apply (op.CompareNumbers compare.Less) (at ∷ number 0 ∷ []))
@@ -233,17 +235,13 @@ var from_scope n type = apply (op.Captured from_scope n type) []
 
 abbrev with_two : VType → VType → ℕ → CoreStmt → CoreExpr
 with_two a b n body =
-    e.Lambda (record { locals = frame (by_value a ∷ by_value b ∷ []) [] void; target = bound.Nothing; is_owning = true }) body (record { file = 0; start = n; «end» = n })
+    e.Lambda (bound_to (frame (by_value a ∷ by_value b ∷ []) [] void) bound.Nothing) body (record { file = 0; start = n; «end» = n })
 
 abbrev when_loaded : CoreExpr
 when_loaded =
-    moved act (e.Lambda (record {
-      locals = frame (by_value (unowned (shape.Class 0)) ∷ by_value (unowned shape.AsyncResult) ∷ []) (error_type ∷ []) void;
-      target = bound.Captures inner;
-      is_owning = true;
-    }) (block [] (
-    st.Try (block [] (say (codes "loaded %d") (apply (op.End 9 true) (var outer 1 cart_type ∷ local 1 (unowned shape.AsyncResult) ∷ []) ∷ []) ∷ []))
-    (st.Catch (Some 8) (local 2 error_type ∷ []) (block (of 2 error_type ∷ []) (
+    moved act (e.Lambda (bound_to (frame (by_value (unowned (shape.Class 0)) ∷ by_value (unowned shape.AsyncResult) ∷ []) (error_type ∷ []) void) (bound.Captures inner)) (block [] (
+    st.Try (block [] (say (codes "loaded %d") (apply (op.End 9 true here) (var outer 1 cart_type ∷ local 1 (unowned shape.AsyncResult) ∷ []) ∷ []) ∷ []))
+    (st.Catch (Some 8) None (local 2 error_type ∷ []) (block (of 2 error_type ∷ []) (
     say (codes "failed: %s") (apply (op.Part part.ErrorMessage) (local 2 error_type ∷ []) ∷ []) ∷ []
     )) here ∷ []) [] here
     ∷ say (codes "total %d") (call_on (var outer 1 cart_type) 8 [] ∷ [])
@@ -260,17 +258,17 @@ main = method (frame [] (object 0 ∷ product ∷ texts_type ∷ []) int) (
     st.Block (of 1 product ∷ of 2 texts_type ∷ []) (record { hold = 0; variables = main_loop ∷ cart_type ∷ []; outer = None; this = None; parameters = [] } ∷ []) (
     set (var inner 0 main_loop) (moved main_loop (apply (op.Loop loop.New) []))
     ∷ set (var inner 1 cart_type) (moved cart_type (new 4 6 []))
-    ∷ run (apply (op.Connect 1 None false true true callee.Delegate) (var inner 1 cart_type
+    ∷ run (apply (op.Connect 1 None false true true (callee.Delegate None)) (var inner 1 cart_type
     ∷ with_two (unowned (shape.Class 4)) lent 1 (block [] (say (codes "added %s at %d") (name_of (local 1 lent) ∷ price_of (local 1 lent) ∷ []) ∷ [])) ∷ []))
     ∷ set (local 1 product) (moved product (new 3 4 (by_text (codes "pen") ∷ keep int (number 8) ∷ [])))
-    ∷ run (apply (op.Connect 0 (Some (codes "count")) false true true callee.Delegate) (local 1 product
+    ∷ run (apply (op.Connect 0 (Some (codes "count")) false true true (callee.Delegate None)) (local 1 product
     ∷ with_two (unowned (shape.Class 0)) (unowned shape.ParamSpec) 2 (block [] (
     say (codes "%s changed") (apply (op.Part part.PropertyName) (local 1 (unowned shape.ParamSpec) ∷ []) ∷ []) ∷ []
     )) ∷ []))
     ∷ run (call_on (var inner 1 cart_type) 7 (keep lent (local 1 product) ∷ []))
     ∷ assign int (apply (op.Property 1) (local 1 product ∷ [])) (keep int (number 3))
     ∷ set (local 2 texts_type) (moved texts_type (apply (op.List texts) (copies (codes "ink:5" ∷ codes "pad:2" ∷ codes "cap" ∷ []))))
-    ∷ run (apply (op.Begin 9 true true) (var inner 1 cart_type ∷ local 2 texts_type ∷ when_loaded ∷ []))
+    ∷ run (apply (op.Begin 9 true here) (var inner 1 cart_type ∷ local 2 texts_type ∷ when_loaded ∷ []))
     ∷ run (apply (op.Loop loop.Run) (var inner 0 main_loop ∷ []))
     ∷ st.Return (keep int (number 0) ∷ []) here
     ∷ []
@@ -280,9 +278,9 @@ main = method (frame [] (object 0 ∷ product ∷ texts_type ∷ []) int) (
 abbrev pub shop : Core
 shop =
     with_signals (with_properties (
-    program (object_class ∷ declared.Other ∷ type_2 ∷ type_3 ∷ type_4 ∷ [])
+    program (object_class ∷ interface 1 ∷ type_2 ∷ type_3 ∷ type_4 ∷ [])
     (main ∷ new_item ∷ item_price ∷ drop_item ∷ new_sale ∷ sale_price ∷ plain_creation ∷ add_item ∷ total ∷ load ∷ []) []
-    ) (automatic (codes "name") text 0 true ∷ automatic (codes "count") int 1 false ∷ [])) (notify ∷ record { parameters = lent ∷ []; class_handler = None } ∷ [])
+    ) (automatic (codes "name") text 0 true ∷ automatic (codes "count") int 1 false ∷ [])) (notify ∷ signal (lent ∷ []) None ∷ [])
 
 abbrev lines : List (List ℕ) → List ℕ
 lines [] = []

@@ -1,5 +1,5 @@
 -- When temporaries, locals, parameters and errors go.
-use Rattle.std.specs.Prelude.{refl, ℕ, true, false, List, [], ◌∷◌, ◌++◌, Some, codes, ℤ, pos}
+use Rattle.std.specs.Prelude.{refl, ℕ, false, List, [], ◌∷◌, ◌++◌, Some, codes, ℤ, pos, None}
 use Rattle.vg_base.specs.declared.event.Event.TheVariants.{Made, Gone}
 use Rattle.vg_base.specs.declared.event.ThingKind.TheVariants.{Object, Text, Array, Error}
 use Rattle.vg_base.specs.declared.event.VEnd.TheVariants.{Ended, Dead}
@@ -16,7 +16,7 @@ use Rattle.core_tree.specs.declared.tree.CoreStmt.TheVariants as st
 use Rattle.core_tree.specs.declared.values.Comparison.TheVariants as compare
 use Rattle.core_tree.specs.declared.values.Part.TheVariants as part
 use Rattle.core_tree.specs.declared.values.TextCall.TheVariants as call_of
-use Rattle.core_tree.proofs.Build.{Row, here, owned, unowned, void, int, text, apply, number, literal, null, local, static, changed, assign, set, run, say, of, block, frame, by_value, method, object_class, static_field, program, quiet_world, new, call, line, text_param, keep, moved, copied, told, told_type, told_methods, new_told, told_name, by_text, error_type}
+use Rattle.core_tree.proofs.Build.{Row, here, owned, unowned, void, int, text, apply, number, literal, null, local, static, changed, assign, set, run, say, of, block, frame, by_value, method, object_class, static_field, program, quiet_world, new, call, line, text_param, keep, moved, copied, told, told_type, told_methods, new_told, told_name, by_text, error_type, case_label, default_label}
 
 abbrev told_program : List CoreStmt → List VType → List (Rattle.core_tree.specs.declared.types.CoreMethod.CoreMethod) → Core
 told_program body locals methods = program (object_class ∷ told_type ∷ []) (method (frame [] locals void) (block [] body) ∷ told_methods ++ methods) []
@@ -40,7 +40,7 @@ abbrev pub temporaries_of_error : Core
 temporaries_of_error =
     told_program (
     st.Try (block [] (run (call 4 (make_told (codes "a") ∷ make_told (codes "b") ∷ make_told (codes "c") ∷ [])) ∷ []))
-    (st.Catch (Some 8) (local 0 error_type ∷ []) (block (of 0 error_type ∷ []) (say (codes "caught") [] ∷ [])) here ∷ []) [] here
+    (st.Catch (Some 8) None (local 0 error_type ∷ []) (block (of 0 error_type ∷ []) (say (codes "caught") [] ∷ [])) here ∷ []) [] here
     ∷ []
     ) (error_type ∷ []) (
     method (frame (text_param ∷ []) [] told) (block [] (
@@ -85,8 +85,8 @@ chosen_by_text =
     method (frame [] (text ∷ []) void) (block (of 0 text ∷ []) (
     set (local 0 text) (copied (literal (codes "x")))
     ∷ st.Switch (apply (op.TextFunction call_of.Concatenate) (local 0 text ∷ literal (codes "y") ∷ [])) (
-    st.Section (literal (codes "xy") ∷ []) false (block [] (say (codes "hit") [] ∷ st.Break here ∷ [])) here
-    ∷ st.Section [] true (block [] (say (codes "miss") [] ∷ st.Break here ∷ [])) here
+    st.Section (literal (codes "xy") ∷ []) (case_label ∷ []) (block [] (say (codes "hit") [] ∷ st.Break here ∷ [])) here
+    ∷ st.Section [] (default_label ∷ []) (block [] (say (codes "miss") [] ∷ st.Break here ∷ [])) here
     ∷ []
     ) here
     ∷ []
@@ -165,7 +165,7 @@ finally_throws =
     program (object_class ∷ []) (
     method (frame [] (error_type ∷ []) void) (block [] (
     st.Try (block [] (run (call 2 []) ∷ []))
-    (st.Catch (Some 8) (local 0 error_type ∷ []) (block (of 0 error_type ∷ []) (
+    (st.Catch (Some 8) None (local 0 error_type ∷ []) (block (of 0 error_type ∷ []) (
     say (codes "%s %d") (apply (op.Part part.ErrorMessage) (local 0 error_type ∷ []) ∷ apply (op.Part part.ErrorCode) (local 0 error_type ∷ []) ∷ []) ∷ []
     )) here ∷ []) [] here
     ∷ []

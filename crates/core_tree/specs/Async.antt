@@ -11,9 +11,9 @@ use Rattle.core_tree.specs.declared.types.CoreMethod.{CoreMethod}
 use Rattle.core_tree.specs.State
 use Rattle.core_tree.specs.State.{Value, Null, Number, Thing, Cells, Delegate, Code, Resume, Place, Operand, Given, Owned, OwnedCells, At, Frame, Way, Throw, Source, Parked, Item, Push, ChangeTop, Store, Execute, GiveUp, Leave, BeginBody, EndBody, BackTo, ParkFor, Receive, ThingState, Content, ActivationOf}
 use Rattle.core_tree.specs.Owners.{thing_at}
-use Rattle.core_tree.specs.Places.{Out, quiet, stop, stuck, next, cells_of, is_owning, zero_of, empty_places, firsts, held, put, add_places, with_thing, next_serial, made, is_null, unless, value_of, give}
+use Rattle.core_tree.specs.Places.{Out, quiet, stop, stuck, next, cells_of, zero_of, empty_places, firsts, held, put, add_places, with_thing, next_serial, made, is_null, unless, value_of, give, carried, is_owning_place}
 use Rattle.core_tree.specs.Calls.{tested, used, is_void, is_struct}
-use Rattle.core_tree.specs.Storing.{take_at}
+use Rattle.core_tree.specs.Storing.{take_at, store_at}
 
 -- The places of an activation: `this`, the arguments, the callback, the result, and the error that stands for it.
 
@@ -38,7 +38,7 @@ parameter_types (p ∷ ps) = p.kind ∷ parameter_types ps
 abbrev pub activation_types : CoreMethod → List VType
 activation_types m = this_type ∷ parameter_types m.locals.parameters ++ callback_type ∷ m.locals.result ∷ error_type ∷ []
 
--- where the places of an activation begin that has this first place
+-- where each parameter begins in an activation with this first place
 abbrev pub parameters_at : Core → ℕ → CoreMethod → List ℕ
 parameters_at core first m = firsts core (suc first) (parameter_types m.locals.parameters)
 
@@ -139,24 +139,33 @@ body_frame core s t first m =
       activation = Some t;
     }
 
--- the same, where the method is there
-abbrev pub begin_body_in : Core → State.State → ℕ → ℕ → Option CoreMethod → Out
-begin_body_in core s t first None = stuck s
-begin_body_in core s t first (Some m) =
-    quiet (next (map Execute m.body ++ EndBody ∷ BackTo s.frame ∷ []) (record (add_places s (empty_places core None m.locals.others)) { frame = body_frame core s t first m }))
+-- a method that was looked up
+abbrev pub with_method : State.State → Option CoreMethod → (CoreMethod → Out) → Out
+with_method s None go = stuck s
+with_method s (Some m) go = go m
 
--- the same, where the activation is there
-abbrev pub begin_body_of : Core → State.State → ℕ → Option ThingState → Out
-begin_body_of core s t None = stuck s
-begin_body_of core s t (Some x) = of_method x.content
-  where
-    of_method : Content → Out
-    of_method (ActivationOf number slot waiter) = begin_body_in core s t x.first (slice_get core.methods number)
-    of_method _ = stuck s
+-- the same of an activation's, by what the thing is
+abbrev pub with_content : Core → State.State → ℕ → Content → (ℕ → CoreMethod → ℕ → ℕ → Option ℕ → Out) → Out
+with_content core s first (ActivationOf number slot waiter) go = with_method s (slice_get core.methods number) (λ m. go first m number slot waiter)
+with_content core s first _ go = stuck s
+
+-- the places of a thing that is an activation
+abbrev pub with_thing_at : Core → State.State → Option ThingState → (ℕ → CoreMethod → ℕ → ℕ → Option ℕ → Out) → Out
+with_thing_at core s None go = stuck s
+with_thing_at core s (Some x) go = with_content core s x.first x.content go
+
+-- the places of an activation, told by its method
+abbrev pub with_activation : Core → State.State → ℕ → (ℕ → CoreMethod → ℕ → ℕ → Option ℕ → Out) → Out
+with_activation core s t go = with_thing_at core s (thing_at s t) go
+
+-- the body is to be done, in its frame
+abbrev pub run_body : Core → State.State → ℕ → ℕ → CoreMethod → Out
+run_body core s t first m =
+    quiet (next (map Execute m.body ++ EndBody ∷ BackTo s.frame ∷ []) (record (add_places s (empty_places core None m.locals.others)) { frame = body_frame core s t first m }))
 
 -- the body runs up to its first park
 abbrev pub begin_body : Core → State.State → ℕ → Out
-begin_body core s t = begin_body_of core s t (thing_at s t)
+begin_body core s t = with_activation core s t (λ first m number slot waiter. run_body core s t first m)
 
 -- Parking
 
@@ -200,40 +209,24 @@ complete s (Some t) =
       last_source = suc s.last_source;
     })
 
--- the places of an activation, told by its method
-abbrev pub with_activation : Core → State.State → ℕ → (ℕ → CoreMethod → ℕ → ℕ → Option ℕ → Out) → Out
-with_activation core s t go = of_thing (thing_at s t)
-  where
-    of_content : ℕ → Content → Out
-    of_content first (ActivationOf number slot waiter) = of_method (slice_get core.methods number)
-      where
-        of_method : Option CoreMethod → Out
-        of_method None = stuck s
-        of_method (Some m) = go first m number slot waiter
-    of_content first _ = stuck s
-
-    of_thing : Option ThingState → Out
-    of_thing None = stuck s
-    of_thing (Some x) = of_content x.first x.content
-
 -- an error that leaves the body is kept in the activation
 abbrev pub keep_error : Core → State.State → ℕ → Option ℕ → Out
 keep_error core s p None = stuck s
 keep_error core s p (Some t) =
-    with_activation core s t (λ first m number slot waiter. quiet (next (EndBody ∷ []) (put (put s (error_at core first m) (held s p)) p Null)))
+    with_activation core s t (λ first m number slot waiter. store_at (next (EndBody ∷ []) s) (error_at core first m) (Owned p))
 
 -- The result
 
 -- the error of an activation is thrown: it stands in a place of its own while it is carried
 abbrev pub throw_from : State.State → ℕ → Out
 throw_from s n =
-    quiet (next (Leave (Throw (length s.places)) ∷ []) (put (add_places s (record { owning = true; holds = held s n; within = None } ∷ [])) n Null))
+    quiet (next (Leave (Throw (length s.places)) ∷ []) (carried s n))
 
 -- the result moves out, and null or zero stays
 abbrev pub move_result : Core → State.State → VType → ℕ → Out
 move_result core s kind n =
     if is_void kind.shape then quiet s
-    else (if is_owning kind then quiet (take_at core s kind n)
+    else (if is_owning_place s n then quiet (take_at core s kind n)
     else (if is_struct kind.shape then quiet (take_at core s kind n)
     else quiet (put (give s (Given (held s n))) n (zero_of kind.shape))))
 

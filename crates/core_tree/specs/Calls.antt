@@ -16,8 +16,8 @@ use Rattle.core_tree.specs.declared.lambda.Mode.{Mode}
 use Rattle.core_tree.specs.declared.lambda.Mode.TheVariants as mode
 use Rattle.core_tree.specs.declared.lambda.Locals.{Locals}
 use Rattle.core_tree.specs.State
-use Rattle.core_tree.specs.State.{Value, Null, Thing, Arguments, Cells, Place, Operand, Given, Owned, OwnedCells, At, CellOf, ElementOf, PropertyOf, VariableOf, Frame, Item, GiveUp, Clear, EndCall, ThingState, Content, ArrayOf}
-use Rattle.core_tree.specs.Places.{cells_of, is_owning, empty_place, empty_places, firsts, range, held, put, owning_from, add_places, uses, value_of, give, Found, There, Fails, Nowhere, found, find_at, find_cell, find_element, find_variable, content_of}
+use Rattle.core_tree.specs.State.{Value, Null, Thing, Arguments, Cells, Place, Operand, Given, Owned, OwnedCells, At, CellOf, ElementOf, MemberOf, PropertyOf, VariableOf, Frame, Item, GiveUp, Clear, EndCall, ThingState, Content, ArrayOf}
+use Rattle.core_tree.specs.Places.{ownable, cells_of, is_owning, empty_place, empty_places, firsts, range, held, put_in, owning_from, add_places, uses, value_of, give, Found, There, Fails, Nowhere, found, find_at, find_cell, find_element, find_variable, content_of}
 
 -- Elements
 
@@ -44,11 +44,17 @@ width_in core _ = 1
 
 -- Targets
 
+-- the place that is so many behind one that was found
+abbrev pub behind_found : ℕ → Found → Found
+behind_found k (There n) = There (n + k)
+behind_found k f = f
+
 -- where a target leads, with its tests: null before dead before the index
 abbrev pub find_target : Core → State.State → Operand → Found
 find_target core s (At n) = find_at s n
 find_target core s (CellOf v k) = find_cell s v k
 find_target core s (ElementOf v i) = find_element s v (width_in core (content_of s v)) i
+find_target core s (MemberOf o k) = behind_found k (find_target core s o)
 find_target core s (VariableOf v outward k) = find_variable s v outward k
 find_target core s _ = Nowhere
 
@@ -92,27 +98,41 @@ tested fs = if any ends_null fs then Some (Trapped trap.Null) else (if any ends_
 
 -- Arguments
 
+-- what fills a cell, and the temporary that it leaves, if it stood in one
+pub record Filling : Type 0 where
+  pub value : Value
+  pub left : Option ℕ
+
+-- what stands in a temporary
+abbrev pub part_at : State.State → ℕ → Filling
+part_at s n = record { value = held s n; left = Some n }
+
 -- what fills the cells of a parameter
-abbrev pub values_of : State.State → Operand → List Value
-values_of s (OwnedCells first count) = map (held s) (range first count)
-values_of s o = value_of s o ∷ []
+abbrev pub parts_of : State.State → Operand → List Filling
+parts_of s (Owned n) = part_at s n ∷ []
+parts_of s (OwnedCells first count) = map (part_at s) (range first count)
+parts_of s o = record { value = value_of s o; left = None } ∷ []
 
--- the temporaries that a value leaves when it goes into an owning place
-abbrev pub left_by : Operand → List ℕ
-left_by (Owned n) = n ∷ []
-left_by (OwnedCells first count) = range first count
-left_by o = []
+-- one more temporary, if there is one
+abbrev pub with_left : Option ℕ → List ℕ → List ℕ
+with_left None ns = ns
+with_left (Some n) ns = n ∷ ns
 
--- cells of types that hold these values
-abbrev pub filled : List VType → List Value → List Place
-filled [] vs = []
-filled (kind ∷ kinds) [] = empty_place None kind ∷ filled kinds []
-filled (kind ∷ kinds) (v ∷ vs) = record { owning = is_owning kind; holds = v; within = None } ∷ filled kinds vs
+-- the temporaries that values leave where they go into owning cells
+abbrev pub left_by : List VType → List Filling → List ℕ
+left_by [] ps = []
+left_by (kind ∷ kinds) [] = []
+left_by (kind ∷ kinds) (p ∷ ps) = if is_owning kind then with_left p.left (left_by kinds ps) else left_by kinds ps
 
--- one of the cells at least owns
-abbrev pub any_owning : List VType → Bool
-any_owning [] = false
-any_owning (kind ∷ kinds) = if is_owning kind then true else any_owning kinds
+-- what a cell of a type holds
+abbrev pub filled_cell : State.State → VType → Value → Place
+filled_cell s kind v = record { owning = is_owning kind; holds = if is_owning kind then ownable s v else v; within = None }
+
+-- cells of types that hold these
+abbrev pub filled : State.State → List VType → List Filling → List Place
+filled s [] ps = []
+filled s (kind ∷ kinds) [] = empty_place None kind ∷ filled s kinds []
+filled s (kind ∷ kinds) (p ∷ ps) = filled_cell s kind p.value ∷ filled s kinds ps
 
 -- what the arguments of a call make: the place of each parameter, new places, the temporaries that are left,
 -- and what the targets among them lead to
@@ -142,8 +162,8 @@ abbrev pub with_value : Core → State.State → ℕ → CoreParameter → Opera
 with_value core s n p o rest =
     record rest {
       locals = n ∷ rest.locals;
-      places = filled (cells_of core p.kind) (values_of s o) ++ rest.places;
-      left = if any_owning (cells_of core p.kind) then left_by o ++ rest.left else rest.left;
+      places = filled s (cells_of core p.kind) (parts_of s o) ++ rest.places;
+      left = left_by (cells_of core p.kind) (parts_of s o) ++ rest.left;
     }
 
 -- one more parameter that is the argument's place itself
@@ -171,10 +191,14 @@ arrange core s n (p ∷ ps) (o ∷ os) = with_parameter core s n p p.mode o (arr
 
 -- The frame
 
+-- the list of places, where each of these is null
+abbrev pub emptied_in : List Place → List ℕ → List Place
+emptied_in ps [] = ps
+emptied_in ps (n ∷ ns) = emptied_in (put_in ps n Null) ns
+
 -- each of these places is null
 abbrev pub emptied : State.State → List ℕ → State.State
-emptied s [] = s
-emptied s (n ∷ ns) = emptied (put s n Null) ns
+emptied s ns = record s { places = emptied_in s.places ns }
 
 -- the owning cells of the parameters that are places of their own, the last parameter first
 abbrev pub parameters_owned : Core → State.State → List CoreParameter → List ℕ → List ℕ

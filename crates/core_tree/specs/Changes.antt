@@ -13,7 +13,7 @@ use Rattle.core_tree.specs.declared.program.Core.{Core}
 use Rattle.core_tree.specs.State
 use Rattle.core_tree.specs.State.{Value, Null, Number, Literal, Arguments, Thing, Message, Cells, Place, Operand, Given, Owned, OwnedCells, Item, CopyCells, ThingState, Content, TextOf, ArrayOf, ErrorOf}
 use Rattle.core_tree.specs.Owners.{thing_at}
-use Rattle.core_tree.specs.Places.{Out, quiet, stop, stuck, next, cells_of, is_owning, empty_places, range, held, put, is_owning_place, add_places, with_thing, next_serial, made, reads, cannot_be_owned, is_null, content_of, unless, value_of, give, give_owned, give_made, within_gone}
+use Rattle.core_tree.specs.Places.{Out, quiet, stop, stuck, next, cells_of, is_owning, empty_places, range, held, put, fill, ownable, is_owning_place, add_places, with_thing, next_serial, made, reads, cannot_be_owned, is_null, content_of, unless, value_of, give, give_owned, give_made, within_gone}
 use Rattle.core_tree.specs.Calls.{type_of_item, give_cells}
 
 -- the bytes of a text, or of an error's message
@@ -73,7 +73,7 @@ abbrev pub copy_array_in : Core → State.State → Value → Option Content →
 copy_array_in core s v (Some (ArrayOf of count)) = copy_array_of core s v of count
 copy_array_in core s v _ = stuck s
 
--- the copy of the arguments of `main` is an array of texts
+-- an array is copied, with its elements; the copy of the arguments of `main` is an array of texts
 abbrev pub copy_array : Core → State.State → ElementType → Value → Out
 copy_array core s of (Arguments first count) = copy_array_of core s (Arguments first count) of count
 copy_array core s of v = unless_null s v (unless (reads s (v ∷ [])) s (copy_array_in core s v (content_of s v)))
@@ -131,27 +131,27 @@ change core s NotCopied kind o = stuck s
 
 -- a copy of a text goes into a cell
 abbrev pub cell_text : State.State → ℕ → List ℕ → Out
-cell_text s to bytes = (put (with_thing s (TextOf bytes) []) to (Thing (next_serial s)), made (TextOf bytes))
+cell_text s to bytes = (fill (with_thing s (TextOf bytes) []) to (Thing (next_serial s)), made (TextOf bytes))
 
 -- a copy of an array goes into a cell
 abbrev pub cell_array : Core → State.State → ℕ → Value → ElementType → ℕ → Out
 cell_array core s to v of count =
-    (next (CopyCells (zip (cells_in s v) (range (length s.places) (length (cells_in s v)))) ∷ []) (put (with_thing s (ArrayOf of count) (empty_array core s of count)) to (Thing (next_serial s))), made (ArrayOf of count))
+    (next (CopyCells (zip (cells_in s v) (range (length s.places) (length (cells_in s v)))) ∷ []) (fill (with_thing s (ArrayOf of count) (empty_array core s of count)) to (Thing (next_serial s))), made (ArrayOf of count))
 
 -- a cell gets a copy of a text, error or array, or becomes one more owner of an object
 abbrev pub cell_thing : Core → State.State → ℕ → Value → Option Content → Out
 cell_thing core s to v (Some (TextOf bytes)) = cell_text s to bytes
 cell_thing core s to v (Some (ErrorOf domain code message)) =
-    (put (with_thing s (ErrorOf domain code message) []) to (Thing (next_serial s)), made (ErrorOf domain code message))
+    (fill (with_thing s (ErrorOf domain code message) []) to (Thing (next_serial s)), made (ErrorOf domain code message))
 cell_thing core s to v (Some (ArrayOf of count)) = cell_array core s to v of count
-cell_thing core s to v _ = if cannot_be_owned s v then stop s Dead else quiet (put s to v)
+cell_thing core s to v _ = if cannot_be_owned s v then stop s Dead else quiet (fill s to v)
 
 -- a cell that owns gets a copy of this value
 abbrev pub copy_value : Core → State.State → ℕ → Value → Out
 copy_value core s to (Literal bytes) = cell_text s to bytes
 copy_value core s to (Message t) = unless (reads s (Message t ∷ [])) s (cell_text s to (bytes_of s (Message t)))
 copy_value core s to (Thing t) = cell_thing core s to (Thing t) (content_of s (Thing t))
-copy_value core s to v = quiet (put s to v)
+copy_value core s to v = quiet (fill s to (ownable s v))
 
 -- One cell is copied: one that does not own as it is, one that owns by the change of its type.
 abbrev pub copy_cell : Core → State.State → (from to : ℕ) → Out

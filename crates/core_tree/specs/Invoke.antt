@@ -147,4 +147,4 @@ abbrev pub call : Core → State.State → Callee → List Operand → Out
 call core s (callee.Static m) os = call_method core s [] Null os m
 call core s (callee.Method m) os = with_receiver s os (λ v rest. call_method core s (used s v ∷ []) v rest m)
 call core s (callee.Virtual slot) os = with_receiver s os (λ v rest. call_slot core s v rest slot)
-call core s callee.Delegate os = with_receiver s os (λ v rest. call_delegate core s v rest)
+call core s (callee.Delegate kind) os = with_receiver s os (λ v rest. call_delegate core s v rest)

@@ -59,7 +59,7 @@ caught_in core s p (v ∷ vs) body = enter_block core s (Locate v ∷ Push (Owne
 
 -- the first of the parts that takes the error
 abbrev pub catch_by : Core → State.State → ℕ → Statement → Out → Out
-catch_by core s p (CoreStmt-F.Catch domain variable body at) later =
+catch_by core s p (CoreStmt-F.Catch domain caught variable body at) later =
     if takes domain (content_of s (held s p)) then caught_in core (without_operands s) p variable body else later
 catch_by core s p _ later = later
 
@@ -78,11 +78,15 @@ abbrev pub at_finally : State.State → List CoreStmt → Way → Out
 at_finally s [] way = pass s way
 at_finally s (f ∷ fs) way = quiet (next (Execute f ∷ Leave way ∷ []) (without_operands s))
 
+-- the places of a result that own; the object that is made is none, since it goes when its creation method is left
+abbrev pub kept_result : Core → State.State → List ℕ
+kept_result core s =
+    if s.frame.result == s.frame.this then [] else owning_from s (range s.frame.result (length (cells_of core s.frame.result_type)))
+
 -- A new error that leaves a `finally` takes the place of the error or the result that was kept.
 abbrev pub at_leave : Core → State.State → Way → Way → Out
 at_leave core s (Throw old) (Throw p) = first s (GiveUp old) (Throw p)
-at_leave core s Return (Throw p) =
-    quiet (next (map GiveUp (owning_from s (range s.frame.result (length (cells_of core s.frame.result_type)))) ++ Leave (Throw p) ∷ []) s)
+at_leave core s Return (Throw p) = quiet (next (map GiveUp (kept_result core s) ++ Leave (Throw p) ∷ []) s)
 at_leave core s old way = pass s way
 
 -- The end of a call: an error goes on in the caller, when the parameters are given up.

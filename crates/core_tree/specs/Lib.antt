@@ -18,3 +18,4 @@ pub mod Leaving
 pub mod Step
 pub mod Tidy
 pub mod Laws
+pub mod Runs

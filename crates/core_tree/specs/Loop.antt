@@ -12,9 +12,8 @@ use Rattle.core_tree.specs.declared.values.LoopCall.TheVariants as loop
 use Rattle.core_tree.specs.State
 use Rattle.core_tree.specs.State.{Value, Null, Number, Thing, Operand, Given, Owned, Source, Parked, Item, GiveUp, LoopTurn, EndFunction, EndCompletion, EndDispatch, Content, LoopOf}
 use Rattle.core_tree.specs.Owners.{live}
-use Rattle.core_tree.specs.Places.{Out, quiet, stop, stuck, next, held, uses, cannot_be_owned, is_null, give_number, give_bool, give_made, give_up, unless, value_of}
+use Rattle.core_tree.specs.Places.{Out, quiet, stop, stuck, next, held, uses, cannot_be_owned, is_null, give_number, give_bool, give_made, give_up, unless, value_of, ownable}
 use Rattle.core_tree.specs.Storing.{same_target, left_empty, is_false}
-use Rattle.core_tree.specs.Signals.{handler_place}
 use Rattle.core_tree.specs.Invoke.{call_delegate, parked_of, go_on}
 use Rattle.core_tree.specs.Async.{with_activation, callback_at}
 
@@ -40,7 +39,7 @@ abbrev pub add_source : State.State → Option ℕ → ℕ → Operand → Out
 add_source s interval due o =
     quiet (give_number (
     record (left_empty s o) {
-      places = (left_empty s o).places ++ record (handler_place s o) { owning = true } ∷ [];
+      places = (left_empty s o).places ++ record { owning = true; holds = ownable s (value_of s o); within = None } ∷ [];
       sources = s.sources ++ record { id = suc s.last_source; interval = interval; due = due; place = length s.places; completes = None } ∷ [];
       last_source = suc s.last_source;
     }
@@ -197,19 +196,21 @@ end_completion core s id t around =
 
 -- The calls
 
+-- a timeout after so many milliseconds
+abbrev pub add_timeout : State.State → Value → Operand → Out
+add_timeout s (Number (pos n)) f = add_source s (Some n) (later s.clock n) f
+add_timeout s v f = stuck s
+
+-- the source with an id is removed
+abbrev pub remove_with : State.State → Value → Out
+remove_with s (Number z) = remove_first s (first_with z s.sources)
+remove_with s v = stuck s
+
 -- a call of the main loop, with its operands
 abbrev pub loop_call : Core → State.State → LoopCall → List Operand → Out
 loop_call core s loop.IdleAdd (f ∷ []) = add_source s None 0 f
-loop_call core s loop.TimeoutAdd (ms ∷ f ∷ []) = after_ms (value_of s ms)
-  where
-    after_ms : Value → Out
-    after_ms (Number (pos n)) = add_source s (Some n) (later s.clock n) f
-    after_ms v = stuck s
-loop_call core s loop.SourceRemove (id ∷ []) = with_id (value_of s id)
-  where
-    with_id : Value → Out
-    with_id (Number z) = remove_first s (first_with z s.sources)
-    with_id v = stuck s
+loop_call core s loop.TimeoutAdd (ms ∷ f ∷ []) = add_timeout s (value_of s ms) f
+loop_call core s loop.SourceRemove (id ∷ []) = remove_with s (value_of s id)
 loop_call core s loop.New [] = give_made s LoopOf []
 loop_call core s loop.Run (o ∷ []) = run s (value_of s o)
 loop_call core s loop.Quit (o ∷ []) = quit s (value_of s o)

@@ -15,7 +15,7 @@ use Rattle.core_tree.specs.declared.types.Making.TheVariants as making
 use Rattle.core_tree.specs.State
 use Rattle.core_tree.specs.State.{Value, Null, Number, Thing, Operand, Given, Frame, Stage, Destructor, Places, Handlers, Last, Handler, Item, Evaluate, Locate, Push, Store, Execute, EndStatement, EndCall, EndMaking, BeginMaking, CallBase, MakeObject, SetProperty, RunMethod, GiveUp, End, Status, Gone, ThingState, Content, ObjectOf}
 use Rattle.core_tree.specs.Owners.{thing_at}
-use Rattle.core_tree.specs.Places.{Out, quiet, stuck, next, zero_of, empty_places, range, held, put, owning_from, is_owning_place, with_thing, with_status, next_serial, made, give_up, unless}
+use Rattle.core_tree.specs.Places.{Out, quiet, stuck, next, zero_of, empty_places, range, held, fill, owning_from, is_owning_place, with_thing, with_status, next_serial, made, give_up, unless}
 use Rattle.core_tree.specs.Calls.{Opening, open_frame, tested}
 use Rattle.core_tree.specs.Invoke.{class_info, call_method}
 
@@ -89,7 +89,7 @@ given_values (g ∷ gs) = Evaluate g.value ∷ given_values gs
 -- how a creation method begins; the temporaries of this beginning go when the base's rest has run
 abbrev pub beginning : State.State → ℕ → List ℕ → Making → List Item
 beginning s class outer making.Nothing = []
-beginning s class outer (making.Base number arguments) = evaluations arguments ++ CallBase class number ∷ EndStatement outer ∷ []
+beginning s class outer (making.Base number arguments at) = evaluations arguments ++ CallBase class number ∷ EndStatement outer ∷ []
 beginning s class outer (making.Object givens) = given_values givens ++ MakeObject class (given_properties givens) ∷ EndStatement outer ∷ []
 
 -- a part of the work with temporaries of its own
@@ -126,14 +126,15 @@ given_to n [] os found = found
 given_to n (p ∷ ps) [] found = found
 given_to n (p ∷ ps) (o ∷ os) found = given_to n ps os (if n == p then Some o else found)
 
+-- the default of a property of a type, or zero or null
+abbrev pub default_value : VType → List CoreExpr → Item
+default_value kind [] = Push (Given (zero_of kind.shape))
+default_value kind (e ∷ es) = Evaluate e
+
 -- a construct property gets its default, or zero or null
 abbrev pub set_default : ℕ → Option CoreProperty → List Item
 set_default n None = []
-set_default n (Some p) = default_of p.default
-  where
-    default_of : List CoreExpr → List Item
-    default_of [] = Push (Given (zero_of p.kind.shape)) ∷ SetProperty n ∷ []
-    default_of (e ∷ es) = Evaluate e ∷ SetProperty n ∷ []
+set_default n (Some p) = default_value p.kind p.default ∷ SetProperty n ∷ []
 
 -- a construct property gets what is given, or its default
 abbrev pub set_given : Core → ℕ → Option Operand → List Item
@@ -170,12 +171,14 @@ object_work core class ps os =
 
 -- the object is made, in the place of the making
 abbrev pub make_object : Core → State.State → ℕ → List ℕ → List Operand → Out
-make_object core s class ps os = (
-  next (object_work core class ps os) (
-      put (with_thing s (ObjectOf class) (empty_places core (Some (next_serial s)) (class_cells (class_info core class)))) s.frame.this (Thing (next_serial s))
-      ),
-  made (ObjectOf class),
-)
+make_object core s class ps os =
+    if is_owning_place s s.frame.this then (
+      next (object_work core class ps os) (
+          fill (with_thing s (ObjectOf class) (empty_places core (Some (next_serial s)) (class_cells (class_info core class)))) s.frame.this (Thing (next_serial s))
+          ),
+      made (ObjectOf class),
+    )
+    else stuck s
 
 -- the object that is made
 abbrev pub made_object : State.State → Value
@@ -198,9 +201,9 @@ destroy_by core s t rest None = quiet (next (rest ∷ []) s)
 destroy_by core s t rest (Some m) = call_method core (next (rest ∷ []) s) [] (Thing t) [] m
 
 -- the destructor of a class runs, and then its fields are emptied in order of declaration
-abbrev pub destroy : Core → State.State → ℕ → Option ClassInfo → Out
-destroy core s t None = stuck s
-destroy core s t (Some info) = destroy_by core s t (End t (Places (own_places s (thing_at s t) info) info.base)) info.destructor
+abbrev pub destroy : Core → State.State → ℕ → ℕ → Option ClassInfo → Out
+destroy core s t class None = quiet (next (End t (Destructor class) ∷ []) s)
+destroy core s t class (Some info) = destroy_by core s t (End t (Places (own_places s (thing_at s t) info) info.base)) info.destructor
 
 -- a handler of this object
 abbrev pub is_of : ℕ → Handler → Bool
@@ -242,7 +245,7 @@ behind_places s t None = if is_object_of (thing_at s t) then quiet (next (End t 
 
 -- one stage of an ending
 abbrev pub end_stage : Core → State.State → ℕ → Stage → Out
-end_stage core s t (Destructor class) = destroy core s t (class_info core class)
+end_stage core s t (Destructor class) = destroy core s t class (class_info core class)
 end_stage core s t (Places (n ∷ ns) base) = quiet (give_up (next (End t (Places ns base) ∷ []) s) n)
 end_stage core s t (Places [] base) = behind_places s t base
 end_stage core s t Handlers = drop_handlers s t (owning_handler s t s.handlers)

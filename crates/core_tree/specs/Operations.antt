@@ -25,12 +25,12 @@ use Rattle.core_tree.specs.declared.values.Part.TheVariants as part
 use Rattle.core_tree.specs.declared.values.TextCall.{TextCall}
 use Rattle.core_tree.specs.declared.values.TextCall.TheVariants as text
 use Rattle.core_tree.specs.State
-use Rattle.core_tree.specs.State.{Value, Null, Number, Literal, Arguments, Thing, Message, Property, Cells, Delegate, Code, Method, Place, Operand, Given, Owned, OwnedCells, At, CellOf, ElementOf, PropertyOf, VariableOf, Frame, Item, Push, Store, ReadAway, Perform, ThingState, Content, ObjectOf, TextOf, ArrayOf, ErrorOf}
+use Rattle.core_tree.specs.State.{Value, Null, Number, Literal, Arguments, Thing, Message, Property, Cells, Delegate, Code, Method, Place, Operand, Given, Owned, OwnedCells, At, CellOf, ElementOf, MemberOf, PropertyOf, VariableOf, Frame, Item, Push, Store, ReadAway, Perform, ThingState, Content, ObjectOf, TextOf, ArrayOf, ErrorOf}
 use Rattle.core_tree.specs.Arithmetic.{wrap, calculate, compare_numbers, compared, bytes_less, bytes_equal, signed}
 use Rattle.core_tree.specs.Formats.{Argument, Integer, Written, formatted}
 use Rattle.core_tree.specs.Texts.{TextResult, Makes, Gives, Traps, Nothing, apply_text, line_of, behind_line, before_zero}
-use Rattle.core_tree.specs.Places.{Out, quiet, stop, stuck, next, cells_of, range, held, put, owning_from, add_places, with_thing, next_serial, made, uses, reads, is_null, cannot_be_owned, content_of, release, unless, value_of, give, give_value, give_number, give_bool, give_owned, give_made, There}
-use Rattle.core_tree.specs.Calls.{type_of_item, find_target, values_of, left_by, filled, emptied, give_cells}
+use Rattle.core_tree.specs.Places.{Out, quiet, stop, stuck, next, cells_of, range, held, fill, owning_from, is_owning_place, add_places, with_thing, next_serial, made, uses, reads, is_null, cannot_be_owned, content_of, unless, value_of, give, give_value, give_number, give_bool, give_owned, give_made, There}
+use Rattle.core_tree.specs.Calls.{type_of_item, find_target, Filling, part_at, parts_of, left_by, filled, emptied, give_cells}
 use Rattle.core_tree.specs.Changes.{bytes_of, give_text, change, cells_in, empty_array}
 use Rattle.core_tree.specs.Invoke.{local_place, way_begins, find_this, with_found, class_of, member_in, call, with_receiver}
 use Rattle.core_tree.specs.Storing.{same_reference, read, get_property, take_from}
@@ -180,7 +180,7 @@ abbrev pub new_array : Core → State.State → ElementType → ℤ → Out
 new_array core s of (negsuc n) = stop s (Trapped trap.Length)
 new_array core s of (pos n) = if nat_le (2 ^ 63) n then stop s (Trapped trap.Length) else give_made s (ArrayOf of n) (empty_array core s of n)
 
--- each cell of an array holds the next of the values
+-- these are places of the thing with this serial
 abbrev pub within_thing : ℕ → List Place → List Place
 within_thing t [] = []
 within_thing t (p ∷ ps) = record p { within = Some t } ∷ within_thing t ps
@@ -188,34 +188,33 @@ within_thing t (p ∷ ps) = record p { within = Some t } ∷ within_thing t ps
 -- `{ .. }`: the array is made, and the elements move into it
 abbrev pub list_array : Core → State.State → ElementType → List Operand → Out
 list_array core s of os =
-    give_made (emptied s (flat_map left_by os)) (ArrayOf of (length os)) (
-    within_thing (next_serial s) (filled (flat_map (cells_of core) (replicate (length os) (type_of_item of))) (flat_map (values_of s) os))
-    )
+    let kinds : List VType = flat_map (cells_of core) (replicate (length os) (type_of_item of)) in
+    let ps : List Filling = flat_map (parts_of s) os in
+    give_made (emptied s (left_by kinds ps)) (ArrayOf of (length os)) (within_thing (next_serial s) (filled s kinds ps))
 
 -- a struct whose cells hold these values, or zeros behind them
 abbrev pub new_struct : Core → State.State → ℕ → List Operand → Out
 new_struct core s number os =
     let kinds : List VType = cells_of core (record { shape = shape.Struct number; owned = true; nullable = false }) in
-    let t : State.State = add_places (emptied s (flat_map left_by os)) (filled kinds (flat_map (values_of s) os)) in
+    let ps : List Filling = flat_map (parts_of s) os in
+    let t : State.State = add_places (emptied s (left_by kinds ps)) (filled s kinds ps) in
     quiet (give_cells t (OwnedCells (length s.places) (length kinds)) (owning_from t (range (length s.places) (length kinds))))
-
--- `a += x`: the elements move into an array that is one longer, x comes last, and the old array goes
-abbrev pub append_values : State.State → List ℕ → List Operand → List Value
-append_values s cells os = map (held s) cells ++ flat_map (values_of s) os
 
 -- how many elements an array has; null counts as empty
 abbrev pub element_count : Option Content → ℕ
 element_count (Some (ArrayOf of n)) = n
 element_count _ = 0
 
--- the same, where the array's place is found
+-- `a += x`: the elements move into an array that is one longer, x comes last, and the old array goes
 abbrev pub append_at : Core → State.State → ElementType → ℕ → Operand → Out
 append_at core s of n x =
     let old : Value = held s n in
     let count : ℕ = suc (element_count (content_of s old)) in
-    let ps : List Place = within_thing (next_serial s) (filled (flat_map (cells_of core) (replicate count (type_of_item of))) (append_values s (cells_in s old) (x ∷ []))) in
+    let kinds : List VType = flat_map (cells_of core) (replicate count (type_of_item of)) in
+    let ps : List Filling = map (part_at s) (cells_in s old) ++ parts_of s x in
+    let t : State.State = with_thing (emptied s (left_by kinds ps)) (ArrayOf of count) (within_thing (next_serial s) (filled s kinds ps)) in
     if nat_le (2 ^ 63) count then stop s (Trapped trap.Length)
-    else (release (put (with_thing (emptied s (cells_in s old ++ left_by x)) (ArrayOf of count) ps) n (Thing (next_serial s))) old, made (ArrayOf of count))
+    else (if is_owning_place s n then (fill t n (Thing (next_serial s)), made (ArrayOf of count)) else stuck s)
 
 -- an array in a place gets one more element
 abbrev pub append : Core → State.State → ElementType → Operand → Operand → Out
@@ -237,7 +236,7 @@ abbrev pub delegate_to : Core → State.State → Callee → List Operand → Ou
 delegate_to core s (callee.Static m) os = method_value s Null (Some m)
 delegate_to core s (callee.Method m) os = on_one s os (λ o. receiver_value s o (Some m))
 delegate_to core s (callee.Virtual slot) os = on_one s os (λ o. receiver_value s o (member_in (class_of core s (value_of s o)) slot))
-delegate_to core s callee.Delegate os = stuck s
+delegate_to core s (callee.Delegate kind) os = stuck s
 
 -- Assignment
 
@@ -341,7 +340,7 @@ perform core s (op.TextFunction f) os = text_function s f os
 perform core s (op.Print is_error format) os = unless (reads s (values s os)) s (print s is_error (formatted format (arguments_of s os)))
 perform core s (op.PrintText is_error) os = unless (reads s (values s os)) s (print s is_error (written_in (arguments_of s os)))
 perform core s (op.Format format) os = unless (reads s (values s os)) s (give_text s (formatted format (arguments_of s os)))
-perform core s (op.Call to) os = call core s to os
+perform core s (op.Call to name) os = call core s to os
 perform core s (op.New class method) os = new_object core s class method os
 perform core s (op.NewArray of) os = on_one s os (λ o. with_number s (value_of s o) (λ z. new_array core s of z))
 perform core s (op.List of) os = list_array core s of os
@@ -358,15 +357,21 @@ perform core s (op.Cast n) os = on_one s os (λ o. cast core s o n)
 perform core s (op.NewError domain code format) os = unless (reads s (values s os)) s (new_error s domain code (formatted format (arguments_of s os)))
 perform core s (op.NewErrorText domain code) os = unless (reads s (values s os)) s (new_error s domain code (written_in (arguments_of s os)))
 perform core s (op.Part p) os = on_one s os (λ o. part_of s p (value_of s o))
-perform core s op.Callback os = callback s s.frame.activation
+perform core s (op.Callback method name) os = callback s s.frame.activation
 perform core s (op.Emit signal) os = with_receiver s os (λ v rest. emit s signal v (values s rest))
 perform core s (op.Connect signal detail is_after takes_sender takes_arguments to) os = connect core s signal detail is_after takes_sender takes_arguments to os
 perform core s (op.Disconnect signal to) os = disconnect core s signal to os
 perform core s op.DisconnectId os = on_two s os (λ o id. with_number s (value_of s id) (λ z. disconnect_id s (value_of s o) z))
-perform core s (op.Begin method has_receiver has_callback) os = begin core s method has_receiver os
+perform core s (op.Begin method has_receiver name) os = begin core s method has_receiver os
 perform core s (op.YieldCall method has_receiver) os = yield_call core s method has_receiver os
-perform core s (op.End method has_receiver) os = end core s method has_receiver os
+perform core s (op.End method has_receiver name) os = end core s method has_receiver os
 perform core s (op.Loop c) os = loop_call core s c os
+
+-- the cell of a struct that was given, or of one in a place that is a target itself
+abbrev pub member_target : State.State → Operand → ℕ → Operand
+member_target s (Given v) n = CellOf v n
+member_target s (OwnedCells first count) n = CellOf (Cells first) n
+member_target s target n = MemberOf target n
 
 -- Where a target leads, when its parts are there.
 abbrev pub reach : State.State → Operation → List Operand → Out
@@ -374,7 +379,7 @@ reach s (op.Local n kind) os = quiet (give s (At (local_place s n)))
 reach s (op.Static n kind) os = quiet (give s (At (slice_index_or s.statics n 0)))
 reach s (op.Captured at n kind) os = quiet (give s (VariableOf (way_begins s at.via) at.outward n))
 reach s (op.Field n kind) os = on_one s os (λ o. quiet (give s (CellOf (value_of s o) n)))
-reach s (op.Member n kind) os = on_one s os (λ o. quiet (give s (CellOf (value_of s o) n)))
+reach s (op.Member n kind) os = on_one s os (λ o. quiet (give s (member_target s o n)))
 reach s (op.Element of) os = on_two s os (λ a i. with_number s (value_of s i) (λ z. quiet (give s (ElementOf (value_of s a) z))))
 reach s (op.Property n) os = on_one s os (λ o. quiet (give s (PropertyOf o n)))
 reach s _ os = stuck s

@@ -148,10 +148,18 @@ is_gone s (Thing t) = is_gone_now (status_in (thing_at s t))
 is_gone s (Message t) = is_gone_now (status_in (thing_at s t))
 is_gone s _ = false
 
--- whether a new owner of it is a dead use: it is ending or gone
+-- the thing is ending or gone
+abbrev pub is_past : State.State → Option ℕ → Bool
+is_past s None = false
+is_past s (Some t) = not (is_live_now (status_in (thing_at s t)))
+
+-- whether a new owner of it is a dead use: what it owns is ending or gone
 abbrev pub cannot_be_owned : State.State → Value → Bool
-cannot_be_owned s (Thing t) = not (is_live_now (status_in (thing_at s t)))
-cannot_be_owned s _ = false
+cannot_be_owned s v = is_past s (owned_by v)
+
+-- What an owning place takes. The front never hands it what is ending or gone, and null stands for that.
+abbrev pub ownable : State.State → Value → Value
+ownable s v = if cannot_be_owned s v then Null else v
 
 -- null
 abbrev pub is_null : Value → Bool
@@ -232,9 +240,10 @@ without_target s t (h ∷ hs) =
 abbrev pub begin_ending_of : State.State → ℕ → Option ThingState → State.State
 begin_ending_of s t None = s
 begin_ending_of s t (Some x) =
-    next (End t (first_stage s x x.content) ∷ []) (record s { things = with_status s.things t Ending; handlers = without_target s t s.handlers })
+    if is_live_now x.status then next (End t (first_stage s x x.content) ∷ []) (record s { things = with_status s.things t Ending; handlers = without_target s t s.handlers })
+    else s
 
--- the thing is ending, before all other work
+-- a live thing is ending, before all other work
 abbrev pub begin_ending : State.State → ℕ → State.State
 begin_ending s t = begin_ending_of s t (thing_at s t)
 
@@ -247,9 +256,17 @@ release_thing s (Some t) = if is_unowned s t then begin_ending s t else s
 abbrev pub release : State.State → Value → State.State
 release s v = release_thing s (owned_by v)
 
+-- an owning place gets a value, and what it held is given up
+abbrev pub fill : State.State → ℕ → Value → State.State
+fill s n v = release (put s n v) (held s n)
+
 -- empties an owning place
 abbrev pub give_up : State.State → ℕ → State.State
 give_up s n = release (put s n Null) (held s n)
+
+-- what an owning place holds moves into a new one
+abbrev pub carried : State.State → ℕ → State.State
+carried s n = add_places (put s n Null) (record { owning = true; holds = ownable s (held s n); within = None } ∷ [])
 
 -- Operands
 
@@ -332,7 +349,7 @@ find_cell s (Thing t) k = found (uses s (Thing t ∷ [])) (first_of (thing_at s 
 find_cell s (Cells first) k = find_at s (first + k)
 find_cell s v k = found (uses s (v ∷ [])) Nowhere
 
--- whether an index is outside a length
+-- an index is inside a length
 abbrev pub is_inside : ℤ → ℕ → Bool
 is_inside (pos i) n = nat_lt i n
 is_inside (negsuc i) n = false
@@ -342,7 +359,7 @@ abbrev pub nat_of : ℤ → ℕ
 nat_of (pos i) = i
 nat_of (negsuc i) = 0
 
--- the cells that an element takes: all elements of an array have the same
+-- where an element begins, or the trap `index`
 abbrev pub find_element_if : Bool → ℕ → Found
 find_element_if true n = There n
 find_element_if false n = Fails (Trapped trap.Index)
@@ -378,10 +395,16 @@ abbrev pub outer_place_of : State.State → Value → ℕ
 outer_place_of s (Thing t) = outer_in (thing_at s t)
 outer_place_of s v = 0
 
--- the scope that is so many outward, or the end that a gone one on the way brings
+-- what is reached, unless a test ends the run
+abbrev pub reached : Option VEnd → Result Value VEnd → Result Value VEnd
+reached None r = r
+reached (Some e) r = Err e
+
+-- The scope that is so many outward, or the end that one on the way brings: a gone one, or none,
+-- where a scope that is ending has given up its outer one.
 abbrev pub scope_from : State.State → Value → ℕ → Result Value VEnd
-scope_from s v zero = if is_gone s v then Err Dead else Ok v
-scope_from s v (suc n) = if is_gone s v then Err Dead else scope_from s (held s (outer_place_of s v)) n
+scope_from s v zero = reached (uses s (v ∷ [])) (Ok v)
+scope_from s v (suc n) = reached (uses s (v ∷ [])) (scope_from s (held s (outer_place_of s v)) n)
 
 -- a variable of the scope that was reached
 abbrev pub variable_in : State.State → Result Value VEnd → ℕ → Found

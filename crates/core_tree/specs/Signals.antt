@@ -11,7 +11,7 @@ use Rattle.core_tree.specs.declared.values.Callee.TheVariants as callee
 use Rattle.core_tree.specs.State
 use Rattle.core_tree.specs.State.{Value, Null, Number, Thing, Property, Delegate, Code, Method, Place, Operand, Given, Owned, Handler, Emission, Phase, Before, Class, After, Item, Push, ChangeTop, Emit, CallHandler, CallClassHandler, GiveUp}
 use Rattle.core_tree.specs.Arithmetic.{bytes_equal}
-use Rattle.core_tree.specs.Places.{Out, Found, quiet, stop, stuck, next, held, is_owning_place, uses, is_gone, cannot_be_owned, unless, value_of, give_number, give_up}
+use Rattle.core_tree.specs.Places.{Out, Found, quiet, stop, stuck, next, held, is_owning_place, uses, is_gone, cannot_be_owned, unless, value_of, give_number, give_up, ownable}
 use Rattle.core_tree.specs.Calls.{tested, used, is_struct}
 use Rattle.core_tree.specs.Invoke.{call_delegate, call_slot, class_of, member_in}
 use Rattle.core_tree.specs.Storing.{same_reference, left_empty}
@@ -86,7 +86,7 @@ run_handler s x phase arguments h =
     ++ CallHandler (length s.places) s.frame.operands ∷ GiveUp (length s.places) ∷ Emit (record x { last = h.id }) phase ∷ []
     ) (
     record s {
-      places = s.places ++ record { owning = true; holds = held s h.place; within = None } ∷ [];
+      places = s.places ++ record { owning = true; holds = ownable s (held s h.place); within = None } ∷ [];
       frame = record s.frame { operands = [] };
     }
     )
@@ -155,18 +155,18 @@ handler_code core s (callee.Virtual slot) (o ∷ os) = virtual_code (member_in (
     virtual_code : Option ℕ → Option Operand
     virtual_code None = Some (Given (Delegate (Method slot) (value_of s o)))
     virtual_code (Some m) = Some (Given (Delegate (Method m) (value_of s o)))
-handler_code core s callee.Delegate (o ∷ os) = Some o
+handler_code core s (callee.Delegate kind) (o ∷ os) = Some o
 handler_code core s to os = None
 
 -- the target of a method is used, and that of a lambda where it is bound to one
 abbrev pub target_tests : State.State → Callee → Value → List Found
 target_tests s (callee.Static m) v = []
-target_tests s callee.Delegate (Delegate code Null) = []
+target_tests s (callee.Delegate kind) (Delegate code Null) = []
 target_tests s to v = used s (target_of v) ∷ []
 
 -- the handler's place owns its target where the delegate stood in an owned temporary
 abbrev pub handler_place : State.State → Operand → Place
-handler_place s (Owned n) = record { owning = true; holds = held s n; within = None }
+handler_place s (Owned n) = record { owning = true; holds = ownable s (held s n); within = None }
 handler_place s o = record { owning = false; holds = value_of s o; within = None }
 
 -- the serial of an object

@@ -56,10 +56,12 @@ pub data Operand : Type 0 where
   OwnedCells : (first count : ℕ) → Operand
   -- a target: a place by its number
   At : ℕ → Operand
-  -- a target: the place with this number of an object
+  -- a target: the cell with this number of an object or of a struct
   CellOf : Value → ℕ → Operand
-  -- a target: an element of an array, of so many cells
+  -- a target: an element of an array
   ElementOf : Value → ℤ → Operand
+  -- a target: the cell with this number of the struct in a place
+  MemberOf : Operand → ℕ → Operand
   -- a target: a property of an object
   PropertyOf : Operand → ℕ → Operand
   -- a target: a variable of the scope that is so many scopes outward from this one

@@ -1,5 +1,6 @@
 -- What a statement puts in front of the work.
 use Rattle.std.specs.Prelude.{ℕ, suc, nat_lt, Bool, true, false, if◌then◌else◌, pos, List, [], ◌∷◌, ◌++◌, length, map, Option, Some, None, Result, Ok, Err}
+use Rattle.std.specs.List.{list_any}
 use Rattle.vg_base.specs.declared.event.Span.{Span}
 use Rattle.vg_base.specs.declared.event.VEnd.{VEnd}
 use Rattle.vg_base.specs.declared.event.VEnd.TheVariants.{Trapped, Dead}
@@ -16,13 +17,15 @@ use Rattle.core_tree.specs.declared.lambda.ThisAt.{ThisAt}
 use Rattle.core_tree.specs.declared.lambda.Lambda.{Lambda}
 use Rattle.core_tree.specs.declared.lambda.Target.{Target}
 use Rattle.core_tree.specs.declared.lambda.Target.TheVariants as bound
+use Rattle.core_tree.specs.declared.operation.Operation.{Operation}
 use Rattle.core_tree.specs.declared.operation.Operation.TheVariants as op
 use Rattle.core_tree.specs.declared.tree.CoreExpr.{CoreExpr, out-CoreExpr, CoreExpr-F}
 use Rattle.core_tree.specs.declared.tree.CoreStmt.{CoreStmt, out-CoreStmt, CoreStmt-F}
+use Rattle.core_tree.specs.declared.tree.SectionLabel.{SectionLabel}
 use Rattle.core_tree.specs.State
 use Rattle.core_tree.specs.State.{Value, Null, Number, Literal, Arguments, Thing, Delegate, Body, Place, Operand, Given, Owned, OwnedCells, At, ElementOf, VariableOf, Frame, Way, Break, Continue, Return, Throw, Item, Evaluate, Locate, Push, ReadTarget, ReadAway, ChangeTop, Perform, Reach, AndThen, OrElse, OneOf, IfNull, Branch, Repeat, Execute, Discard, Store, EndStatement, EndBlock, GiveUp, Turn, Steps, Each, BeginEach, EndSwitch, Choose, SetResult, Leave, ThrowGiven, Catches, Finally, Check, Content, ArrayOf, ScopeOf, ErrorOf}
 use Rattle.core_tree.specs.Arithmetic.{int_equal}
-use Rattle.core_tree.specs.Places.{Out, quiet, stop, stuck, next, cells_of, empty_places, range, held, put, owning_from, with_thing, next_serial, made, uses, reads, is_null, cannot_be_owned, content_of, unless, value_of, give_value, give_owned, scope_from}
+use Rattle.core_tree.specs.Places.{Out, quiet, stop, stuck, next, cells_of, empty_places, range, held, fill, carried, is_owning_place, owning_from, with_thing, next_serial, made, uses, reads, is_null, cannot_be_owned, content_of, unless, value_of, give_value, give_owned, scope_from}
 use Rattle.core_tree.specs.Calls.{type_of_item, is_struct}
 use Rattle.core_tree.specs.Invoke.{local_place, way_begins, find_this, with_found}
 use Rattle.core_tree.specs.Storing.{store_at, stands, is_false}
@@ -44,7 +47,7 @@ Statement = CoreStmt-F CoreExpr CoreStmt
 abbrev pub with_parts : State.State → List CoreExpr → Item → Out
 with_parts s parts item = quiet (next (map Evaluate parts ++ item ∷ []) (record s { frame = record s.frame { operands = [] } }))
 
--- a lambda's target: nothing, `this`, or a scope
+-- a delegate is given; one that owns its target is a new owner of it
 abbrev pub give_delegate : State.State → Bool → Value → Value → Out
 give_delegate s false target v = quiet (give_value s v)
 give_delegate s true target v = if cannot_be_owned s target then stop s Dead else quiet (give_owned s v)
@@ -77,9 +80,30 @@ evaluate s (CoreExpr-F.Choice test a b at) = quiet (next (Evaluate test ∷ OneO
 evaluate s (CoreExpr-F.Coalesce a b at) = quiet (next (Evaluate a ∷ IfNull b ∷ []) s)
 evaluate s (CoreExpr-F.Lambda l body at) = lambda_to s l body at l.target
 
+-- an operation that gives a place
+abbrev pub gives_place : Operation → Bool
+gives_place (op.Local n kind) = true
+gives_place (op.Static n kind) = true
+gives_place (op.Captured at n kind) = true
+gives_place (op.Field n kind) = true
+gives_place (op.Member n kind) = true
+gives_place (op.Element of) = true
+gives_place _ = false
+
+-- the struct of a member: one in a place is a target too, which is found by the step that uses it
+abbrev pub struct_item : CoreExpr → Expression → Item
+struct_item e (CoreExpr-F.Apply o parts at) = if gives_place o then Locate e else Evaluate e
+struct_item e _ = Evaluate e
+
+-- what is done for the parts of a target
+abbrev pub target_parts : Operation → List CoreExpr → List Item
+target_parts (op.Member n kind) parts = map (λ e. struct_item e (out-CoreExpr e)) parts
+target_parts _ parts = map Evaluate parts
+
 -- a target: its parts are evaluated, and not the operation itself
 abbrev pub locate : State.State → Expression → Out
-locate s (CoreExpr-F.Apply o parts at) = with_parts s parts (Reach o s.frame.operands)
+locate s (CoreExpr-F.Apply o parts at) =
+    quiet (next (target_parts o parts ++ Reach o s.frame.operands ∷ []) (record s { frame = record s.frame { operands = [] } }))
 locate s _ = stuck s
 
 -- the operand given last is taken
@@ -118,7 +142,7 @@ abbrev pub is_some_value : Option Value → Bool
 is_some_value None = false
 is_some_value (Some v) = true
 
--- the places of a scope: its variables, its outer scope, `this`
+-- the place for a scope's outer scope or `this`, where it has one
 abbrev pub link : ℕ → Option Value → List Place
 link t None = []
 link t (Some v) = record { owning = true; holds = v; within = Some t } ∷ []
@@ -133,12 +157,14 @@ scope_content core s sc outer this = ScopeOf (length (empty_places core None sc.
 
 -- The scope is made, and the block holds it. The hold is the last that the block gives up.
 abbrev pub make_scope : Core → State.State → Scope → List BlockLocal → List Item → List CoreStmt → Option Value → Option Value → Out
-make_scope core s sc locals prologue body outer this = (
-  next (capture core s (next_serial s) sc.parameters ++ block_work prologue body (locals_owned core s locals ++ local_place s sc.hold ∷ [])) (
-      put (with_thing s (scope_content core s sc outer this) (scope_places core (next_serial s) sc outer this)) (local_place s sc.hold) (Thing (next_serial s))
-      ),
-  made (scope_content core s sc outer this),
-)
+make_scope core s sc locals prologue body outer this =
+    if is_owning_place s (local_place s sc.hold) then (
+      next (capture core s (next_serial s) sc.parameters ++ block_work prologue body (locals_owned core s locals ++ local_place s sc.hold ∷ [])) (
+          fill (with_thing s (scope_content core s sc outer this) (scope_places core (next_serial s) sc outer this)) (local_place s sc.hold) (Thing (next_serial s))
+          ),
+      made (scope_content core s sc outer this),
+    )
+    else stuck s
 
 -- the scope becomes a new owner of `this`, if it keeps it
 abbrev pub scope_this : Core → State.State → Scope → List BlockLocal → List Item → List CoreStmt → Option Value → Option ThisAt → Out
@@ -152,7 +178,7 @@ scope_outer core s sc locals prologue body None = scope_this core s sc locals pr
 scope_outer core s sc locals prologue body (Some at) =
     with_scope s (scope_value s at) (λ v. if cannot_be_owned s v then stop s Dead else scope_this core s sc locals prologue body (Some v) sc.this)
 
--- the same, by whether the block makes a scope
+-- a block is entered, by whether it makes a scope
 abbrev pub enter_by : Core → State.State → List BlockLocal → List Item → List CoreStmt → List Scope → Out
 enter_by core s locals prologue body [] = quiet (next (block_work prologue body (locals_owned core s locals)) s)
 enter_by core s locals prologue body (sc ∷ scs) = scope_outer core s sc locals prologue body sc.outer
@@ -184,14 +210,14 @@ execute core s whole (CoreStmt-F.Do body test at) = quiet (next (Execute body �
 execute core s whole (CoreStmt-F.For test steps body at) = quiet (next (Turn whole ∷ []) s)
 execute core s whole (CoreStmt-F.Foreach array item variable ch body at) = part_of_statement s (Evaluate array ∷ BeginEach whole ∷ []) []
 execute core s whole (CoreStmt-F.Switch e sections at) = quiet (next (Evaluate e ∷ Choose sections s.frame.temporaries ∷ []) (with_no_temporaries s))
-execute core s whole (CoreStmt-F.Section labels is_default body at) = stuck s
+execute core s whole (CoreStmt-F.Section values labels body at) = stuck s
 execute core s whole (CoreStmt-F.Break at) = quiet (next (Leave Break ∷ []) s)
 execute core s whole (CoreStmt-F.Continue at) = quiet (next (Leave Continue ∷ []) s)
 execute core s whole (CoreStmt-F.Return [] at) = quiet (next (Leave Return ∷ []) s)
 execute core s whole (CoreStmt-F.Return (e ∷ es) at) = part_of_statement s (Evaluate e ∷ SetResult ∷ []) (Leave Return ∷ [])
 execute core s whole (CoreStmt-F.Throw e at) = part_of_statement s (Evaluate e ∷ ThrowGiven ∷ []) []
 execute core s whole (CoreStmt-F.Try body catches last at) = quiet (next (Execute body ∷ Catches catches ∷ Finally last ∷ []) s)
-execute core s whole (CoreStmt-F.Catch domain variable body at) = stuck s
+execute core s whole (CoreStmt-F.Catch domain caught variable body at) = stuck s
 execute core s whole (CoreStmt-F.Yield at) = park s
 execute core s whole (CoreStmt-F.Assert e at) = part_of_statement s (Evaluate e ∷ Check ∷ []) []
 execute core s whole (CoreStmt-F.AssertNotReached at) = stop s (Trapped trap.Assert)
@@ -260,12 +286,12 @@ body_if false body later = later
 
 -- the block of a section that has the value among its labels
 abbrev pub section_matching : State.State → Value → Statement → Option CoreStmt → Option CoreStmt
-section_matching s v (CoreStmt-F.Section labels is_default body at) later = body_if (any_label s v labels) body later
+section_matching s v (CoreStmt-F.Section values labels body at) later = body_if (any_label s v values) body later
 section_matching s v _ later = later
 
 -- the block of a section that has the label `default`
 abbrev pub section_default : Statement → Option CoreStmt → Option CoreStmt
-section_default (CoreStmt-F.Section labels is_default body at) later = body_if is_default body later
+section_default (CoreStmt-F.Section values labels body at) later = body_if (list_any (λ (l : SectionLabel). l.is_default) labels) body later
 section_default _ later = later
 
 -- the block of the section with `default`
@@ -283,10 +309,19 @@ abbrev pub section_work : Option CoreStmt → List Item
 section_work None = []
 section_work (Some body) = Execute body ∷ EndSwitch ∷ []
 
+-- a section with a label other than `default`
+abbrev pub has_label : Statement → Bool
+has_label (CoreStmt-F.Section (value ∷ values) labels body at) = true
+has_label _ = false
+
+-- the value, where a label is compared with it
+abbrev pub compared_with : List CoreStmt → Value → List Value
+compared_with sections v = if list_any (λ c. has_label (out-CoreStmt c)) sections then v ∷ [] else []
+
 -- the value is compared while its temporaries are there; then they go, and then the section is done
 abbrev pub choose : State.State → List CoreStmt → List ℕ → Operand → Out
 choose s sections outer o =
-    unless (reads s (value_of s o ∷ [])) s (quiet (next (EndStatement outer ∷ section_work (chosen s (value_of s o) sections (default_of sections))) s))
+    unless (reads s (compared_with sections (value_of s o))) s (quiet (next (EndStatement outer ∷ section_work (chosen s (value_of s o) sections (default_of sections))) s))
 
 -- Results and errors
 
@@ -298,7 +333,7 @@ set_result s o = store_at s s.frame.result o
 abbrev pub throw : State.State → Operand → Out
 throw s (Owned n) =
     if is_null (held s n) then stop s (Trapped trap.Null)
-    else quiet (next (Leave (Throw (length s.places)) ∷ []) (put (record s { places = s.places ++ record { owning = true; holds = held s n; within = None } ∷ [] }) n Null))
+    else quiet (next (Leave (Throw (length s.places)) ∷ []) (carried s n))
 throw s o = unless (uses s (value_of s o ∷ [])) s (stuck s)
 
 -- the trap `assert` where the condition does not hold

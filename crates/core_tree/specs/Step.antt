@@ -83,14 +83,15 @@ abbrev pub copy_cells : Core → State.State → List (ℕ × ℕ) → Out
 copy_cells core s [] = quiet s
 copy_cells core s (p ∷ ps) = copy_cell core (next (CopyCells ps ∷ []) s) p.0 p.1
 
+-- the run ends with the number that `main` gave
+abbrev pub end_with : State.State → Value → Out
+end_with s (Number z) = stop s (Ended z)
+end_with s v = stuck s
+
 -- the run ends with the result of `main`, or 0
 abbrev pub end_code : State.State → List Operand → Out
 end_code s [] = stop s (Ended (pos 0))
-end_code s (o ∷ os) = code_of (value_of s o)
-  where
-    code_of : Value → Out
-    code_of (Number z) = stop s (Ended z)
-    code_of v = stuck s
+end_code s (o ∷ os) = end_with s (value_of s o)
 
 -- the arguments of `main`, where it takes them
 abbrev pub arguments_for : List CoreParameter → List Operand
@@ -187,15 +188,16 @@ abbrev pub static_types : List CorePlace → List VType
 static_types [] = []
 static_types (p ∷ ps) = p.kind ∷ static_types ps
 
+-- an initialiser is assigned to the field at a place
+abbrev pub assigned : ℕ → List CoreExpr → List Item
+assigned n [] = []
+assigned n (e ∷ es) = Push (At n) ∷ Evaluate e ∷ Store ∷ EndStatement [] ∷ []
+
 -- each initialiser of a static field is assigned to its field, in order
 abbrev pub initial_items : List CorePlace → List ℕ → List Item
 initial_items [] ns = []
 initial_items (p ∷ ps) [] = []
-initial_items (p ∷ ps) (n ∷ ns) = assigned p.initial ++ initial_items ps ns
-  where
-    assigned : List CoreExpr → List Item
-    assigned [] = []
-    assigned (e ∷ es) = Push (At n) ∷ Evaluate e ∷ Store ∷ EndStatement [] ∷ []
+initial_items (p ∷ ps) (n ∷ ns) = assigned n p.initial ++ initial_items ps ns
 
 -- the frame around `main`
 abbrev pub outermost : Frame

@@ -1,5 +1,5 @@
 -- Reading places, storing into them, and the accessors of properties.
-use Rattle.std.specs.Prelude.{ℕ, suc, ◌==◌, Bool, true, false, if◌then◌else◌, List, [], ◌∷◌, length, map, Option, Some, None, slice_get}
+use Rattle.std.specs.Prelude.{ℕ, suc, ◌==◌, Bool, true, false, not, if◌then◌else◌, List, [], ◌∷◌, length, map, Option, Some, None, slice_get}
 use Rattle.vala_types.specs.declared.types.Shape.{Shape}
 use Rattle.vala_types.specs.declared.types.Shape.TheVariants as shape
 use Rattle.vala_types.specs.declared.types.VType.{VType}
@@ -11,9 +11,9 @@ use Rattle.core_tree.specs.declared.types.Accessor.{Accessor}
 use Rattle.core_tree.specs.declared.types.Accessor.TheVariants as access
 use Rattle.core_tree.specs.declared.types.CoreProperty.{CoreProperty}
 use Rattle.core_tree.specs.State
-use Rattle.core_tree.specs.State.{Value, Null, Number, Literal, Arguments, Thing, Message, Cells, Delegate, Place, Code, Method, Body, Resume, Operand, Given, Owned, OwnedCells, At, CellOf, ElementOf, PropertyOf, VariableOf, Item, Push, Store, ChangeTop, GiveUp, EndStatement, Notify, Content, TextOf, ErrorOf}
+use Rattle.core_tree.specs.State.{Value, Null, Number, Literal, Arguments, Thing, Message, Property, Cells, Delegate, Place, Code, Method, Body, Resume, Operand, Given, Owned, OwnedCells, At, CellOf, ElementOf, PropertyOf, VariableOf, Item, Push, Store, ChangeTop, GiveUp, EndStatement, Notify, Content, TextOf, ErrorOf}
 use Rattle.core_tree.specs.Arithmetic.{int_equal, bytes_equal, is_zero}
-use Rattle.core_tree.specs.Places.{Out, quiet, stuck, next, cells_of, is_owning, zero_of, add_places, give_owned, range, held, put, owning_from, is_owning_place, release, reads, unless, value_of, give, Found}
+use Rattle.core_tree.specs.Places.{Out, quiet, stuck, next, cells_of, zero_of, add_places, give_owned, range, held, held_in, owning_in, put, put_in, ownable, owning_from, is_owning_place, release, reads, unless, value_of, give, Found}
 use Rattle.core_tree.specs.Calls.{find_target, tested, used, is_struct, give_cells}
 use Rattle.core_tree.specs.Changes.{bytes_of}
 use Rattle.core_tree.specs.Invoke.{with_found, call_method, class_of, member_in}
@@ -27,11 +27,12 @@ same_code Resume Resume = true
 same_code (Body l body at) (Body m other to) = if at.file == to.file then (if at.start == to.start then at.«end» == to.«end» else false) else false
 same_code _ _ = false
 
--- the same thing, or null twice
+-- the same thing, null twice, or what notifications of one property hand on
 abbrev pub same_target : Value → Value → Bool
 same_target Null Null = true
 same_target (Thing t) (Thing u) = t == u
 same_target (Arguments n c) (Arguments m d) = n == m
+same_target (Property name) (Property other) = bytes_equal name other
 same_target _ _ = false
 
 -- references are the same thing; delegates have the same code and target
@@ -99,25 +100,43 @@ read_target core s kind target = read s kind (find_target core s target)
 
 -- Storing
 
+-- both own, or neither does
+abbrev pub same_owning : Bool → Bool → Bool
+same_owning true b = b
+same_owning false b = not b
+
+-- The list of places, where two change what they hold. Both own, or neither does.
+abbrev pub exchange_in : List Place → ℕ → ℕ → List Place
+exchange_in ps n m =
+    if same_owning (owning_in (slice_get ps n)) (owning_in (slice_get ps m)) then put_in (put_in ps n (held_in (slice_get ps m))) m (held_in (slice_get ps n)) else ps
+
+-- the list of places, where the cells of two change what they hold
+abbrev pub exchanged_in : List Place → List ℕ → List ℕ → List Place
+exchanged_in ps [] ms = ps
+exchanged_in ps (n ∷ ns) [] = ps
+exchanged_in ps (n ∷ ns) (m ∷ ms) = exchanged_in (exchange_in ps n m) ns ms
+
 -- the cells of two places change what they hold
 abbrev pub exchanged : State.State → List ℕ → List ℕ → State.State
-exchanged s [] ms = s
-exchanged s (n ∷ ns) [] = s
-exchanged s (n ∷ ns) (m ∷ ms) = exchanged (put (put s n (held s m)) m (held s n)) ns ms
+exchanged s ns ms = record s { places = exchanged_in s.places ns ms }
+
+-- the list of places, where the temporary that a value leaves is null
+abbrev pub left_empty_in : List Place → Operand → List Place
+left_empty_in ps (Owned m) = put_in ps m Null
+left_empty_in ps o = ps
 
 -- the temporary that a value leaves is null
 abbrev pub left_empty : State.State → Operand → State.State
-left_empty s (Owned m) = put s m Null
-left_empty s o = s
+left_empty s o = record s { places = left_empty_in s.places o }
 
 -- A place gets a value, and what it held is given up. The cells of a struct all get theirs, and then the old ones go in order.
 abbrev pub store_at : State.State → ℕ → Operand → Out
 store_at s n (OwnedCells first count) =
     quiet (next (map GiveUp (owning_from s (range first count))) (exchanged s (range n count) (range first count)))
 store_at s n o =
-    if is_owning_place s n then quiet (release (put (left_empty s o) n (value_of s o)) (held s n)) else quiet (put s n (value_of s o))
+    if is_owning_place s n then quiet (release (put (left_empty s o) n (ownable s (value_of s o))) (held s n)) else quiet (put s n (value_of s o))
 
--- two values of a property's type are the same: numbers and texts by value, all others by identity
+-- two texts are the same by their bytes, or null twice
 abbrev pub same_bytes : State.State → Value → Value → Bool
 same_bytes s Null Null = true
 same_bytes s Null _ = false
@@ -129,7 +148,7 @@ abbrev pub same_numbers : Value → Value → Bool
 same_numbers (Number a) (Number b) = int_equal a b
 same_numbers _ _ = false
 
--- two values of a shape are the same
+-- two values of a shape are the same: numbers and texts by value, all others by identity
 abbrev pub same_value : State.State → Shape → Value → Value → Bool
 same_value s shape.Text v w = same_bytes s v w
 same_value s shape.Bool v w = same_numbers v w
@@ -181,12 +200,16 @@ store core s target o = with_found s (find_target core s target) (λ n. store_at
 -- `(owned) x` of a struct: all its cells move, and are zero or null then.
 abbrev pub cells_taken : State.State → List VType → ℕ → List Place
 cells_taken s [] n = []
-cells_taken s (kind ∷ kinds) n = record { owning = is_owning kind; holds = held s n; within = None } ∷ cells_taken s kinds (suc n)
+cells_taken s (kind ∷ kinds) n = record { owning = is_owning_place s n; holds = held s n; within = None } ∷ cells_taken s kinds (suc n)
+
+-- the list of places, where these cells are zero or null
+abbrev pub zeroed_in : List Place → List VType → ℕ → List Place
+zeroed_in ps [] n = ps
+zeroed_in ps (kind ∷ kinds) n = zeroed_in (put_in ps n (zero_of kind.shape)) kinds (suc n)
 
 -- these cells are zero or null
 abbrev pub zeroed : State.State → List VType → ℕ → State.State
-zeroed s [] n = s
-zeroed s (kind ∷ kinds) n = zeroed (put s n (zero_of kind.shape)) kinds (suc n)
+zeroed s kinds n = record s { places = zeroed_in s.places kinds n }
 
 -- the cells of a struct move into owned temporaries
 abbrev pub take_struct : State.State → List VType → ℕ → State.State
@@ -196,7 +219,7 @@ take_struct s kinds n =
 
 -- Moves what a place holds into an owned temporary. The place is null.
 abbrev pub take_at : Core → State.State → VType → ℕ → State.State
-take_at core s kind n = if is_struct kind.shape then take_struct s (cells_of core kind) n else give_owned (put s n Null) (held s n)
+take_at core s kind n = if is_struct kind.shape then take_struct s (cells_of core kind) n else give_owned (put s n Null) (ownable s (held s n))
 
 -- moves what a target holds into an owned temporary
 abbrev pub take_from : Core → State.State → VType → Operand → Out

@@ -5,7 +5,8 @@ use Rattle.vg_base.specs.declared.event.TrapKind.{TrapKind}
 use Rattle.vg_base.specs.declared.event.TrapKind.TheVariants as trap
 use Rattle.core_tree.specs.declared.values.TextCall.{TextCall}
 use Rattle.core_tree.specs.declared.values.TextCall.TheVariants as text
-use Rattle.core_tree.specs.Arithmetic.{number_text, signed, is_zero}
+use Rattle.vala_types.specs.declared.types.IntKind.TheVariants.{Int32}
+use Rattle.core_tree.specs.Arithmetic.{number_text, signed, wrap, is_zero}
 use Rattle.core_tree.specs.Formats.{Argument, Integer, Written, is_digit}
 
 -- what a text function gives
@@ -47,10 +48,14 @@ abbrev pub is_found : Option ℕ → Bool
 is_found None = false
 is_found (Some n) = true
 
+-- a length or a place as an `int`, modulo its width
+abbrev pub as_int : ℕ → TextResult
+as_int n = Gives (wrap Int32 (pos n))
+
 -- the place, counted from the start, or -1
 abbrev pub or_minus_one : ℕ → Option ℕ → TextResult
 or_minus_one start None = Gives (negsuc 0)
-or_minus_one start (Some n) = Gives (pos (start + n))
+or_minus_one start (Some n) = as_int (start + n)
 
 -- a place in a text of a length, if it is one from 0 to the length
 abbrev pub place_in : ℕ → ℤ → Option ℕ
@@ -125,7 +130,7 @@ number_read bits (After is_negative n) = held_within bits is_negative n
 -- what a function gives of texts and numbers; reading a line is told elsewhere, since it takes the input
 abbrev pub apply_text : TextCall → List Argument → TextResult
 apply_text text.Concatenate (Written a ∷ Written b ∷ []) = made_text (a ++ b)
-apply_text text.Length (Written a ∷ []) = Gives (signed 32 (length a))
+apply_text text.Length (Written a ∷ []) = as_int (length a)
 apply_text text.Byte (Written a ∷ Integer i ∷ []) = byte_at a (place_in (length a) i)
 apply_text text.Substring (Written a ∷ Integer start ∷ Integer count ∷ []) = substring_from a count (place_in (length a) (from_end (length a) start))
 apply_text text.Contains (Written a ∷ Written b ∷ []) = truth (is_found (place_of b a))

@@ -1,19 +1,32 @@
 -- What holds of things and owners between any two steps.
-use Rattle.std.specs.Prelude.{ℕ, zero, suc, ◌==◌, ◌&&◌, nat_le, Bool, true, List, [], ◌∷◌, count_by}
+use Rattle.std.specs.Prelude.{ℕ, zero, suc, ◌+◌, ◌==◌, ◌&&◌, nat_le, Bool, true, is_some, List, [], ◌∷◌, count_by}
 use Rattle.vg_base.specs.Machine.{move}
 use Rattle.core_tree.specs.declared.program.Core.{Core}
 use Rattle.core_tree.specs.State
-use Rattle.core_tree.specs.State.{Status, Live, Ending, Gone, ThingState}
-use Rattle.core_tree.specs.Owners.{owns, ends}
+use Rattle.core_tree.specs.State.{Status, Live, Ending, Gone, Place, ThingState, Parked}
+use Rattle.core_tree.specs.Owners.{owns, owned_by, ends}
 use Rattle.core_tree.specs.Step.{meaning}
 
 -- how many places own a thing
 abbrev pub owning_places : State.State → ℕ → ℕ
 owning_places s t = count_by (owns t) s.places
 
--- how often its ending stands in the work
+-- the place owns something
+abbrev pub owns_some : Place → Bool
+owns_some p = p.owning && is_some (owned_by p.holds)
+
+-- how many places own something
+abbrev pub owners : State.State → ℕ
+owners s = count_by owns_some s.places
+
+-- how often its ending stands in the work of parked activations
+abbrev pub parked_endings : ℕ → List Parked → ℕ
+parked_endings t [] = 0
+parked_endings t (p ∷ ps) = count_by (ends t) p.work + parked_endings t ps
+
+-- how often its ending stands in the work, that of parked activations included
 abbrev pub endings : State.State → ℕ → ℕ
-endings s t = count_by (ends t) s.work
+endings s t = count_by (ends t) s.work + parked_endings t s.parked
 
 -- A live thing has an owner. The ending of an ending thing stands in the work once, and no place owns it.
 -- A thing that is gone has neither.

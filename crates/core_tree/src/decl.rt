@@ -1,6 +1,7 @@
 // The declarations of a program, from which alone its interface can be told.
 
 use crate::lambda::Mode;
+use crate::tree::{CoreExpr, ErrorType};
 use sqlite_items::Items;
 use vala_types::VType;
 use vg_base::Span;
@@ -47,12 +48,15 @@ pub struct Modifiers {
     pub is_virtual: bool,
     pub is_override: bool,
     pub is_async: bool,
+    pub is_inline: bool,
 }
 
 /// One declaration. They stand in order of files and declaration, each before those in it.
 #[derive(Drop)]
 pub struct CoreDecl {
     pub kind: DeclKind,
+    /// Of a class, interface, struct, enum, error domain or delegate: its number in `Core::types`.
+    pub type_number: Option<u32>,
     /// The declaration around it, by its place in the list.
     pub owner: Option<u32>,
     pub full_name: Items<u8>,
@@ -66,13 +70,15 @@ pub struct CoreDecl {
     /// Of a setter: whether it is `set`, and whether it is `construct`.
     pub is_set: bool,
     pub is_construct: bool,
-    /// Its type, or that of its result. Of a getter it owns where `owned` is written.
+    /// Its type as it is written, or that of its result. Of a getter it owns where `owned` is written.
+    /// A parameter of an async method owns where `owned` is written; its place in the frame always owns.
     pub value_type: VType,
     /// Bases, in the order in which they are written.
     pub bases: Items<VType>,
-    /// The errors that it declares.
-    pub errors: Items<VType>,
+    /// The errors that it declares, each with the span of its type.
+    pub errors: Items<ErrorType>,
     /// The value of a constant, a default or an enum member, none or one, as an expression that needs no step.
-    pub value: Items<crate::tree::CoreExpr>,
+    pub value: Items<CoreExpr>,
+    /// The span of its name, or of the word of an accessor.
     pub at: Span,
 }

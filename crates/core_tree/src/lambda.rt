@@ -2,6 +2,7 @@
 
 use sqlite_items::Items;
 use vala_types::{Change, VType};
+use vg_base::Span;
 
 /// How a parameter gets what its argument gives.
 #[derive(Clone, Copy)]
@@ -17,8 +18,11 @@ pub enum Mode {
 /// A parameter. The first locals of a frame are its parameters.
 #[derive(Clone, Copy)]
 pub struct CoreParameter {
+    /// The type of the place. In an async method it owns, however it is written.
     pub kind: VType,
     pub mode: Mode,
+    /// The span of its name.
+    pub at: Span,
 }
 
 /// The places of a frame: its parameters, and then its locals, which are numbered on from them.
@@ -68,7 +72,9 @@ pub enum Target {
 /// A parameter that a lambda captures. The method's entry puts it into the scope.
 #[derive(Clone, Copy)]
 pub struct CapturedParameter {
+    /// The parameter, by its number among the locals.
     pub local: u32,
+    /// The first cell of the scope that it goes into. A variable of struct type has a cell for each of that struct's.
     pub variable: u32,
     pub kind: VType,
     /// Move where the parameter owns, else the copy for its type.
@@ -87,6 +93,7 @@ pub struct BlockLocal {
 pub struct Scope {
     /// The local that is the block's hold on it.
     pub hold: u32,
+    /// The types of its variables. Its cells are theirs, one behind another.
     pub variables: Items<VType>,
     /// The next scope outward in the same method or lambda, or the lambda's target; the scope owns it. None or one.
     pub outer: Option<ScopeAt>,
@@ -98,6 +105,8 @@ pub struct Scope {
 /// The frame and the target of a lambda.
 #[derive(Drop)]
 pub struct Lambda {
+    /// The delegate type that it is of, which says what errors it may throw. None of a lambda that is connected.
+    pub delegate: Option<u32>,
     pub locals: Locals,
     pub target: Target,
     /// Whether a place that holds it owns the target. A handler that uses `this` alone does not.

@@ -2,6 +2,7 @@
 
 ghost use Rattle.std.specs.Prelude.{ℕ};
 ghost use Rattle.core_tree.specs.State.{State};
+ghost use Rattle.core_tree.specs.Runs.{DispatchesSourceThere, EndingsStandOnce, GoneOnce, IdsAreGivenOnce, IsAlwaysTidy, MadeBeforeGone, MakingsAreNumbered, OneEndingBegins, OnePlaceIsGivenUp, OneStageAStep, OwnedIsLive, ThingsGoOn};
 ghost use Rattle.core_tree.specs.Laws.{CallbacksOwnNothing, DispatchesReadySource, EmptiesOnePlace, LiteralsAreNoThings, NothingLivesAtFirst, RunsGoOn, ThingsAreNumbered};
 
 /// A trace only grows, an end stays, and nothing lives before the first step.
@@ -29,4 +30,32 @@ pub fn things_are_numbered()
 /// What a turn of the main loop dispatches is a source that is there and ready.
 pub fn ready_sources_are_dispatched()
     ensures { DispatchesReadySource }
+{}
+
+/// In every run the n-th thing that the trace says was made is the one with the serial n, and what is there stays what it is.
+pub fn makings_are_numbered()
+    ensures numbered { MakingsAreNumbered }
+    ensures stay { ThingsGoOn }
+    ensures stages { OneStageAStep }
+{}
+
+/// In every run a thing goes once, after it was made, and its ending stands in the work once while it is ending.
+pub fn things_go_once()
+    ensures gone { GoneOnce }
+    ensures order { MadeBeforeGone }
+    ensures endings { EndingsStandOnce }
+    ensures one { OneEndingBegins }
+{}
+
+/// Between any two steps of every run a live thing has an owner, and one that is ending or gone has none; a step gives up one place at most.
+pub fn live_things_are_owned()
+    ensures tidy { IsAlwaysTidy }
+    ensures live { OwnedIsLive }
+    ensures one { OnePlaceIsGivenUp }
+{}
+
+/// In every run no id of a handler or source is given twice, and what is dispatched is a source that is there.
+pub fn ids_are_given_once()
+    ensures ids { IdsAreGivenOnce }
+    ensures dispatches { DispatchesSourceThere }
 {}

@@ -16,14 +16,15 @@ pub use lambda::{
     ThisAt, Via,
 };
 pub use laws::{
-    one_place_is_given_up, only_things_are_owned, ready_sources_are_dispatched, runs_go_on,
-    things_are_numbered,
+    ids_are_given_once, live_things_are_owned, makings_are_numbered, one_place_is_given_up,
+    only_things_are_owned, ready_sources_are_dispatched, runs_go_on, things_are_numbered,
+    things_go_once,
 };
 pub use operation::Operation;
 pub use program::Core;
-pub use tree::{CoreExpr, CoreStmt};
+pub use tree::{CoreExpr, CoreStmt, ErrorType, SectionLabel};
 pub use types::{
     Accessor, ClassInfo, CoreMethod, CorePlace, CoreProperty, CoreSignal, CoreType, DelegateInfo,
-    Given, Making, Slot, StructInfo,
+    DomainInfo, Given, InterfaceInfo, Making, Slot, SlotInfo, SlotKind, StructInfo, TypeOrigin,
 };
 pub use values::{Arithmetic, Callee, Comparison, LoopCall, Part, TextCall};

@@ -4,6 +4,7 @@ use crate::lambda::{ScopeAt, ThisAt};
 use crate::values::{Arithmetic, Callee, Comparison, LoopCall, Part, TextCall};
 use sqlite_items::Items;
 use vala_types::{Change, IntKind, Item, VType};
+use vg_base::Span;
 
 /// What an expression does when its parts are evaluated. The parts of each are named with it, in their order.
 #[derive(Drop)]
@@ -23,7 +24,7 @@ pub enum Operation {
     Local(u32, VType),
     /// No parts. The static field with this number.
     Static(u32, VType),
-    /// No parts. The variable with this number of a scope.
+    /// No parts. The cell with this number of a scope, where one of its variables begins.
     Captured(ScopeAt, u32, VType),
     /// Receiver. The object's place with this number, counted over all its classes from the base on.
     Field(u32, VType),
@@ -60,8 +61,8 @@ pub enum Operation {
     },
     /// The values of a literal format. Gives the fresh text.
     Format(Items<u8>),
-    /// Receiver where there is one, and the arguments. Calls.
-    Call(Callee),
+    /// Receiver where there is one, and the arguments. Calls. The span is that of the name that is called.
+    Call(Callee, Span),
     /// The arguments of the creation method with this number. Makes an object of this class.
     New {
         class: u32,
@@ -76,7 +77,12 @@ pub enum Operation {
     /// Receiver where there is one. A delegate to this method. It is fresh and owns the receiver.
     MethodValue(Callee),
     /// No parts. `m.callback`: a delegate that resumes this activation and owns nothing.
-    Callback,
+    Callback {
+        /// `m`. Where it is not the method that this stands in, the program is refused.
+        method: u32,
+        /// The span of the word `callback`.
+        name: Span,
+    },
     /// A place and a value. Stores the value and gives up the old one. Gives the target's value where it is used.
     Assign {
         kind: VType,
@@ -124,11 +130,12 @@ pub enum Operation {
     },
     /// Object and id. Removes that handler of the object.
     DisconnectId,
-    /// Receiver, arguments, callback. Begins the async method with this number.
+    /// Receiver, arguments, and the callback where there is one more part. Begins the async method with this number.
     Begin {
         method: u32,
         has_receiver: bool,
-        has_callback: bool,
+        /// The span of the word `begin`.
+        name: Span,
     },
     /// Receiver and arguments. Begins it, parks, and gives its result or error when it has completed.
     YieldCall {
@@ -139,6 +146,8 @@ pub enum Operation {
     End {
         method: u32,
         has_receiver: bool,
+        /// The span of the word `end`.
+        name: Span,
     },
     /// Sources of the main loop, and loops.
     Loop(LoopCall),

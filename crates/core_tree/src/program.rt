@@ -1,7 +1,9 @@
 // A whole program.
 
 use crate::decl::CoreDecl;
-use crate::types::{CoreMethod, CorePlace, CoreProperty, CoreSignal, CoreType};
+use crate::types::{
+    CoreMethod, CorePlace, CoreProperty, CoreSignal, CoreType, SlotInfo, TypeOrigin,
+};
 use sqlite_items::Items;
 
 /// The typed core of a program.
@@ -9,9 +11,13 @@ use sqlite_items::Items;
 pub struct Core {
     pub decls: Items<CoreDecl>,
     pub types: Items<CoreType>,
+    /// Where each type comes from, by its number.
+    pub origins: Items<TypeOrigin>,
     pub methods: Items<CoreMethod>,
     pub properties: Items<CoreProperty>,
     pub signals: Items<CoreSignal>,
+    /// The slots of all classes and interfaces.
+    pub slots: Items<SlotInfo>,
     pub statics: Items<CorePlace>,
     /// The number of `main`.
     pub start: u32,

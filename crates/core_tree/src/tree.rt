@@ -3,8 +3,26 @@
 use crate::lambda::{BlockLocal, Lambda, Scope};
 use crate::operation::Operation;
 use sqlite_items::{Boxed, Items};
-use vala_types::{Change, Item};
+use vala_types::{Change, Item, VType};
 use vg_base::Span;
+
+/// A type that is written for an error, behind `throws` or in a `catch`.
+#[derive(Clone, Copy)]
+pub struct ErrorType {
+    /// The type, which may be that of no error. Such a program is refused.
+    pub kind: VType,
+    /// The span of the type.
+    pub at: Span,
+}
+
+/// A label of a section. The values of those with `case` stand beside them.
+#[derive(Clone, Copy)]
+pub struct SectionLabel {
+    /// Whether it is `default`, else `case`.
+    pub is_default: bool,
+    /// The span of the label, its colon with it.
+    pub at: Span,
+}
 
 /// An expression. It gives a value, or an owned temporary, or nothing where its type is `void`.
 #[derive(Drop)]
@@ -63,10 +81,11 @@ pub enum CoreStmt {
         body: Boxed<CoreStmt>,
         at: Span,
     },
-    /// Evaluates, compares with the labels in order, gives up the temporaries, and does from the chosen section on.
+    /// Evaluates, compares with the labels in order, gives up the temporaries, and does the section that is chosen, alone.
     Switch(CoreExpr, Items<CoreStmt>, Span),
-    /// A section of a `switch`: its labels, whether it has the label `default`, and its block.
-    Section(Items<CoreExpr>, bool, Boxed<CoreStmt>, Span),
+    /// A section of a `switch`: the values of its labels, all its labels in order, and its block.
+    /// A label with `case` has one of the values, in their order, and `default` has none.
+    Section(Items<CoreExpr>, Items<SectionLabel>, Boxed<CoreStmt>, Span),
     /// Leaves the innermost loop or `switch`.
     Break(Span),
     /// Goes on with the next turn of the innermost loop.
@@ -79,7 +98,10 @@ pub enum CoreStmt {
     Try(Boxed<CoreStmt>, Items<CoreStmt>, Items<CoreStmt>, Span),
     /// A `catch`: the domain, where it names one, and a block whose first place gets the error, which is a target.
     Catch {
+        /// The domain whose errors it takes alone.
         domain: Option<u32>,
+        /// The type that is written, if one is.
+        caught: Option<ErrorType>,
         variable: Items<CoreExpr>,
         body: Boxed<CoreStmt>,
         at: Span,

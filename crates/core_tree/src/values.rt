@@ -45,8 +45,9 @@ pub enum Callee {
     Method(u32),
     /// The method that the receiver's class has in this slot.
     Virtual(u32),
-    /// The delegate that the first part gives.
-    Delegate,
+    /// The delegate that the first part gives, of the delegate type with this number. None where that is a lambda that
+    /// is connected.
+    Delegate(Option<u32>),
 }
 
 /// A function of texts. Its parts are texts and numbers in the order in which they are written.
