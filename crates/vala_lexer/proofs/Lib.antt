@@ -1,7 +1,7 @@
 mod ByteLemmas
 mod FitLemmas
-mod NextLemmas
-mod CoverLemmas
+pub mod NextLemmas
+pub mod CoverLemmas
 mod LongestLemmas
 mod WrittenLemmas
 mod SpellingLemmas

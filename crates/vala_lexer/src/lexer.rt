@@ -55,6 +55,13 @@ impl<'t> Lexer<'t> {
         Ok(answer)
     }
 
+    /// Where the file ends.
+    pub fn end(&self) -> Span
+        ensures { result ≡ spec.span (spec.left self.now).file (length (spec.left self.now).bytes) 0 }
+    {
+        self.span(self.bytes.len(), 0)
+    }
+
     fn span(&self, start: usize, len: usize) -> Span
         requires { start + len < 2 ^ 32 }
         ensures { result ≡ spec.span self.now.file start len }
