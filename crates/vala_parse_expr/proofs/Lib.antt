@@ -1,0 +1,4 @@
+pub mod Left
+pub mod NameLaws
+pub mod Parsed
+pub mod Steps

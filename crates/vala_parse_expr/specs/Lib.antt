@@ -1,0 +1,4 @@
+pub mod Ahead
+pub mod Gets
+pub mod Parsed
+pub mod Rest
