@@ -1,2 +1,7 @@
 mod PutLemmas
 mod SaysLemmas
+mod MarkLemmas
+mod TypeReading
+mod Grades
+mod BareTrees
+mod ValueReading

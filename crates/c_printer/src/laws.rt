@@ -6,6 +6,7 @@ ghost use Rattle.c_lexer.specs.Texts.{text_value};
 ghost use Rattle.c_lexer.specs.Tokens.{Lexeme, Tokens, all_of};
 ghost use Rattle.c_lexer.specs.Written.{IsToken};
 ghost use Rattle.c_printer.specs.declared.piece.Piece.{Piece};
+ghost use Rattle.c_printer.specs.Laws.{TypesAreRead, ValuesAreRead};
 ghost use Rattle.c_printer.specs.Put.{AreBytes, CanBePut, kind_of, spelled, spelled_text};
 ghost use Rattle.c_printer.specs.Text.{Says, Text, with_token};
 
@@ -19,4 +20,10 @@ pub fn pieces_read_back()
 pub fn what_is_written_is_read()
     ensures token { (p : Piece) (ts : List Item) (first : Bool) (t : Text) → CanBePut p → Says ts first t → Says (ts ++ (spelled p, kind_of p, first) ∷ []) false (with_token t (spelled p)) }
     ensures read { (ts : List Item) (first : Bool) (t : Text) → Says ts first t → (ls : List Lexeme) × Tokens (all_of t.bytes) ls None × (map (λ (l : Lexeme). (l.text, l.kind, l.begins_line)) ls ≡ ts) }
+{}
+
+/// The tokens that are put of a type or a value that has a reading are read as that type or value, apart from places.
+pub fn types_and_values_are_read()
+    ensures types { TypesAreRead }
+    ensures values { ValuesAreRead }
 {}

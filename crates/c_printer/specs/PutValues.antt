@@ -1,0 +1,215 @@
+-- How types and values are written.
+use Rattle.std.specs.Prelude.{ℕ, zero, suc, ◌+◌, ◌==◌, ◌&&◌, not, nat_le, Bool, true, false, if◌then◌else◌, List, [], ◌∷◌, ◌++◌, map, codes}
+use Rattle.c_lexer.specs.declared.token.Keyword.TheVariants as keyword
+use Rattle.c_lexer.specs.declared.token.Sign.{Sign}
+use Rattle.c_lexer.specs.declared.token.Sign.TheVariants as sign
+use Rattle.c_tree.specs.declared.names.Base.{Base}
+use Rattle.c_tree.specs.declared.names.Base.TheVariants as base
+use Rattle.c_tree.specs.declared.names.CType.{CType}
+use Rattle.c_tree.specs.declared.names.Name as tree
+use Rattle.c_tree.specs.declared.operators.BinaryOperator.{BinaryOperator}
+use Rattle.c_tree.specs.declared.operators.BinaryOperator.TheVariants as op
+use Rattle.c_tree.specs.declared.operators.Level.{Level}
+use Rattle.c_tree.specs.declared.operators.Level.TheVariants as level
+use Rattle.c_tree.specs.declared.operators.Prefix.{Prefix}
+use Rattle.c_tree.specs.declared.operators.Prefix.TheVariants as prefix
+use Rattle.c_tree.specs.declared.operators.PrefixOperator.{PrefixOperator}
+use Rattle.c_tree.specs.declared.code.Expr.{Expr}
+use Rattle.c_tree.specs.declared.code.Shape.{Shape}
+use Rattle.c_tree.specs.declared.code.Shape.TheOpen.{Shape-F, Suffix-F, Choice-F, Expr-F, Link-F}
+use Rattle.c_tree.specs.declared.code.Shape.TheFolds.{fold-Expr, fold-Shape, fold-Suffix, fold-Choice, fold-Link}
+use Rattle.c_tree.specs.declared.code.Suffix.{Suffix}
+use Rattle.c_tree.specs.declared.code.Choice.{Choice}
+use Rattle.c_tree.specs.declared.code.Link.{Link}
+use Rattle.c_tree.specs.Kinds.{level_of}
+use Rattle.c_printer.specs.declared.grade.Grade.{Grade}
+use Rattle.c_printer.specs.declared.grade.Grade.TheVariants.{Choosing, Chaining, Prefixing, Suffixing, Single}
+use Rattle.c_printer.specs.declared.grade.Place.{Place}
+use Rattle.c_printer.specs.declared.grade.Place.TheVariants.{Anywhere, Chosen, Operand, BehindPrefix, BeforeSuffix}
+use Rattle.c_printer.specs.Grades.{stands}
+use Rattle.c_printer.specs.Marks.{Mark, Marks, Name, AKeyword, AConstant, Number, Chars, Character, ASign, Space, in_row}
+
+-- 1. Types
+
+abbrev pub const_marks : Bool → Marks
+const_marks true = AKeyword keyword.Const ∷ Space ∷ []
+const_marks false = []
+
+abbrev pub base_marks : Base → Marks
+base_marks base.Void = AKeyword keyword.Void ∷ []
+base_marks base.Int = AKeyword keyword.Int ∷ []
+base_marks base.Char = AKeyword keyword.Char ∷ []
+base_marks (base.Named x) = Name x.text ∷ []
+
+-- any number of `*`
+abbrev pub stars : ℕ → Marks
+stars zero = []
+stars (suc n) = ASign sign.Star ∷ stars n
+
+-- a space in front of a `*`
+abbrev pub star_marks : ℕ → Marks
+star_marks zero = []
+star_marks (suc n) = Space ∷ stars (suc n)
+
+-- `const gchar **`
+abbrev pub type_marks : CType → Marks
+type_marks c = const_marks c.is_const ++ base_marks c.base ++ star_marks c.stars
+
+-- 2. Operators
+
+abbrev pub sign_of : BinaryOperator → Sign
+sign_of op.Or = sign.OrOr
+sign_of op.And = sign.AndAnd
+sign_of op.BitOr = sign.Bar
+sign_of op.BitXor = sign.Caret
+sign_of op.BitAnd = sign.Ampersand
+sign_of op.Equal = sign.Equal
+sign_of op.Unequal = sign.NotEqual
+sign_of op.Less = sign.Less
+sign_of op.Greater = sign.Greater
+sign_of op.AtMost = sign.LessEqual
+sign_of op.AtLeast = sign.GreaterEqual
+sign_of op.ShiftLeft = sign.ShiftLeft
+sign_of op.ShiftRight = sign.ShiftRight
+sign_of op.Add = sign.Plus
+sign_of op.Subtract = sign.Minus
+sign_of op.Multiply = sign.Star
+sign_of op.Divide = sign.Slash
+sign_of op.Remainder = sign.Percent
+
+abbrev pub in_brackets : Marks → Marks
+in_brackets ms = ASign sign.OpenParen ∷ ms ++ ASign sign.CloseParen ∷ []
+
+-- `(gchar *) `
+abbrev pub cast_marks : CType → Marks
+cast_marks c = in_brackets (type_marks c) ++ Space ∷ []
+
+abbrev pub prefix_marks : Prefix → Marks
+prefix_marks prefix.Plus = ASign sign.Plus ∷ []
+prefix_marks prefix.Minus = ASign sign.Minus ∷ []
+prefix_marks prefix.Not = ASign sign.Not ∷ []
+prefix_marks prefix.Complement = ASign sign.Tilde ∷ []
+prefix_marks prefix.Deref = ASign sign.Star ∷ []
+prefix_marks prefix.AddressOf = ASign sign.Ampersand ∷ []
+prefix_marks (prefix.Cast c) = cast_marks c
+
+abbrev pub prefixes_marks : List PrefixOperator → Marks
+prefixes_marks [] = []
+prefixes_marks (p ∷ ps) = prefix_marks p.prefix ++ prefixes_marks ps
+
+-- 3. Values
+
+-- a value as it is written outside of brackets
+pub record Printed : Type 0 where
+  pub grade : Grade
+  pub marks : Marks
+
+-- an operator and its operand, as they are written
+pub record PrintedLink : Type 0 where
+  pub level : Level
+  pub marks : Marks
+
+-- a value at a place
+abbrev pub placed : Place → Printed → Marks
+placed p a = if stands p a.grade then a.marks else in_brackets a.marks
+
+abbrev pub is_not : Prefix → Bool
+is_not prefix.Not = true
+is_not p = false
+
+abbrev pub begins_with_not : List PrefixOperator → Bool
+begins_with_not [] = false
+begins_with_not (p ∷ ps) = is_not p.prefix
+
+abbrev pub single : Marks → Printed
+single ms = record { grade = Single; marks = ms }
+
+abbrev pub link_marks : List PrintedLink → Marks
+link_marks [] = []
+link_marks (l ∷ ls) = l.marks ++ link_marks ls
+
+-- the level of a chain; each has a link
+abbrev pub chain_level : List PrintedLink → Level
+chain_level [] = level.Product
+chain_level (l ∷ ls) = l.level
+
+-- `sizeof (gint)`
+abbrev pub size_marks : CType → Marks
+size_marks c = AKeyword keyword.Sizeof ∷ Space ∷ in_brackets (type_marks c)
+
+-- `gint, f)`
+abbrev pub field_marks : CType → tree.Name → Marks
+field_marks c x = type_marks c ++ ASign sign.Comma ∷ Space ∷ Name x.text ∷ ASign sign.CloseParen ∷ []
+
+-- `G_STRUCT_OFFSET (gint, f)`
+abbrev pub offset_marks : CType → tree.Name → Marks
+offset_marks c x = AKeyword keyword.StructOffset ∷ Space ∷ ASign sign.OpenParen ∷ field_marks c x
+
+-- one level of a value
+abbrev pub print_shape : Shape-F Printed Marks Marks Printed PrintedLink → Printed
+print_shape (Shape-F.Number n) = single (Number n.value n.kind ∷ [])
+print_shape (Shape-F.Character b) = single (Character b ∷ [])
+print_shape (Shape-F.Text z) = single (Chars z ∷ [])
+print_shape (Shape-F.Constant c) = single (AConstant c ∷ [])
+print_shape (Shape-F.Variable x) = single (Name x.text ∷ [])
+print_shape (Shape-F.Function x) = single (Name x.text ∷ [])
+print_shape (Shape-F.Member x) = single (Name x.text ∷ [])
+print_shape (Shape-F.SizeOf c s) = single (size_marks c)
+print_shape (Shape-F.Offset c x s) = single (offset_marks c x)
+print_shape (Shape-F.Prefix ps a) = record { grade = Prefixing (begins_with_not ps); marks = prefixes_marks ps ++ placed BehindPrefix a }
+print_shape (Shape-F.Postfix a xs) = record { grade = Suffixing; marks = placed BeforeSuffix a ++ in_row xs }
+print_shape (Shape-F.Chain a ls) = record { grade = Chaining (chain_level ls); marks = placed (Operand (chain_level ls)) a ++ link_marks ls }
+print_shape (Shape-F.Conditional cs e) = record { grade = Choosing; marks = in_row cs ++ placed Chosen e }
+
+-- `.f` or `->f`
+abbrev pub member_marks : Sign → tree.Name → Marks
+member_marks s x = ASign s ∷ Name x.text ∷ []
+
+abbrev pub index_marks : Printed → Marks
+index_marks i = ASign sign.OpenBracket ∷ placed Anywhere i ++ ASign sign.CloseBracket ∷ []
+
+-- a sign between two spaces
+abbrev pub spaced : Sign → Marks
+spaced s = Space ∷ ASign s ∷ Space ∷ []
+
+abbrev pub print_suffix : Suffix-F Printed Marks Marks Printed PrintedLink → Marks
+print_suffix (Suffix-F.Field x) = member_marks sign.Dot x
+print_suffix (Suffix-F.Arrow x) = member_marks sign.Arrow x
+print_suffix (Suffix-F.Index i s) = index_marks i
+
+abbrev pub print_choice : Choice-F Printed Marks Marks Printed PrintedLink → Marks
+print_choice c = placed Chosen c.test ++ spaced sign.Question ++ placed Anywhere c.yes ++ spaced sign.Colon
+
+abbrev pub print_expr : Expr-F Printed Marks Marks Printed PrintedLink → Printed
+print_expr e = e.shape
+
+abbrev pub print_link : Link-F Printed Marks Marks Printed PrintedLink → PrintedLink
+print_link l = record { level = level_of l.operator; marks = spaced (sign_of l.operator) ++ placed (Operand (level_of l.operator)) l.operand }
+
+-- a value
+abbrev pub printed : Expr → Printed
+printed = fold-Expr Printed Marks Marks Printed PrintedLink print_shape print_suffix print_choice print_expr print_link
+
+abbrev pub printed_shape : Shape → Printed
+printed_shape = fold-Shape Printed Marks Marks Printed PrintedLink print_shape print_suffix print_choice print_expr print_link
+
+abbrev pub suffix_marks : Suffix → Marks
+suffix_marks = fold-Suffix Printed Marks Marks Printed PrintedLink print_shape print_suffix print_choice print_expr print_link
+
+abbrev pub choice_marks : Choice → Marks
+choice_marks = fold-Choice Printed Marks Marks Printed PrintedLink print_shape print_suffix print_choice print_expr print_link
+
+abbrev pub printed_link : Link → PrintedLink
+printed_link = fold-Link Printed Marks Marks Printed PrintedLink print_shape print_suffix print_choice print_expr print_link
+
+abbrev pub value_marks : Expr → Marks
+value_marks e = placed Anywhere (printed e)
+
+-- values behind one another, with commas
+abbrev pub more_arguments_marks : List Expr → Marks
+more_arguments_marks [] = []
+more_arguments_marks (a ∷ es) = ASign sign.Comma ∷ Space ∷ value_marks a ++ more_arguments_marks es
+
+abbrev pub arguments_marks : List Expr → Marks
+arguments_marks [] = []
+arguments_marks (a ∷ es) = value_marks a ++ more_arguments_marks es
