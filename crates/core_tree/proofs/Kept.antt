@@ -9,8 +9,7 @@ use Rattle.core_tree.specs.Owners.{ends, kind_of}
 use Rattle.core_tree.specs.Places.{Out, next}
 use Rattle.core_tree.specs.Runs.{progress, makings, kinds, is_going, gone_now, ending_now, by_status, past, dispatches}
 use Rattle.core_tree.specs.Tidy.{parked_endings}
-use Rattle.core_tree.specs.Tidy.{owns_some}
-use Rattle.core_tree.proofs.Owned.{weight, Tidy, tidy_carried, Carries, Gains, tidy_gained}
+use Rattle.core_tree.proofs.Owned.{Loses, loses_none, loses_then, Tidy, tidy_carried, Carries, Gains, tidy_gained}
 use Rattle.core_tree.proofs.Counts.{count-cons, count-append, by-more, past-more, further_more, events-append, makings-append, dispatches-append, Ordered, ordered-append, at, Further, further_same, further_trans, kinds-append, length-kinds, IdsGo, ids_same, ids_trans}
 
 -- the ids
@@ -20,8 +19,8 @@ ids_of hs = map (λ (h : Handler). h.id) hs
 abbrev pub source_ids_of : List Source → List ℕ
 source_ids_of ss = map (λ (x : Source). x.id) ss
 
--- From these parts of a state to a later one, with what is said on the way: which sources are dispatched, how many things begin to end at most,
--- and which thing was given up before and is after it.
+-- From these parts of a state to a later one, with what is said on the way: which sources are dispatched, how many things begin to end and how many
+-- owners are lost at most, and which thing was given up before and is after it.
 pub record Kept (begun : ℕ) (before after : Option ℕ) (ds : List ℕ) (u : State.State) (es : List Said) (xs : List ThingState) (pl : List Place) (w : List Item) (ps : List Parked) (hs : List Handler) (h : ℕ) (ss : List Source) (l : ℕ) : Type 0 where
   pub made : kinds u.things ≡ kinds xs ++ makings (events es)
   pub further : Further xs u.things
@@ -34,7 +33,7 @@ pub record Kept (begun : ℕ) (before after : Option ℕ) (ds : List ℕ) (u : S
   pub sources : IdsGo l (source_ids_of ss) u.last_source (source_ids_of u.sources)
   pub dispatched : dispatches (events es) ≡ ds
   pub tidy : Tidy before xs pl → Tidy after u.things u.places
-  pub lost : Tidy before xs pl → count_by owns_some pl + weight before ≤ count_by owns_some u.places + weight after + begun
+  pub lost : Tidy before xs pl → Loses begun before after pl u.places
 
 -- the step keeps it
 abbrev pub Keeps : ℕ → List ℕ → State.State → Out → Type 0
@@ -131,7 +130,7 @@ module _ (xs : List ThingState) (pl : List Place) (w : List Item) (ps : List Par
         sources = b;
         dispatched = refl;
         tidy = λ g. subst (λ ys. Tidy over ys u.places) (sym same) (tidy_carried over xs pl u.places p g);
-        lost = λ g. (let a = p.counts g.only in omega arith);
+        lost = λ q. loses_none pl u.places (p.counts q.only);
       }
 
   -- things and parked activations stay, and handlers and sources come and go
@@ -194,7 +193,7 @@ module _ (xs : List ThingState) (pl : List Place) (w : List Item) (ps : List Par
         sources = subst (λ (r : List Source × ℕ). IdsGo l (source_ids_of ss) r.1 (source_ids_of r.0)) (sym (ap (λ (r : Others). sour r.3 r.4) e)) (ids_same l (source_ids_of ss));
         dispatched = refl;
         tidy = tidy_gained over xs u.things m.thing pl u.places m.last m.live g;
-        lost = λ h. (let a = g.counts h.only in omega arith);
+        lost = λ q. loses_none pl u.places (g.counts q.only);
       }
 
   -- one of two
@@ -249,7 +248,7 @@ keeps_then a b before mid after ds fs s u es o h k =
       sources = ids_trans s.last_source u.last_source o.0.last_source (source_ids_of s.sources) (source_ids_of u.sources) (source_ids_of o.0.sources) h.sources k.sources;
       dispatched = ap dispatches ev ∙ dispatches-append (events es) (events o.1) ∙ ap (λ xs. xs ++ dispatches (events o.1)) h.dispatched ∙ ap (λ xs. ds ++ xs) k.dispatched;
       tidy = λ g. k.tidy (h.tidy g);
-      lost = λ g. (let p = h.lost g in let q = k.lost (h.tidy g) in omega arith);
+      lost = λ g. loses_then a b before mid after s.places u.places o.0.places (h.lost g) (k.lost (h.tidy g));
     }
 
 -- items stand in front of the work that a step finds, or that it leaves

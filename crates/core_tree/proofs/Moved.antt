@@ -1,8 +1,7 @@
 -- What moves between places: where it came from and where it goes, things stay owned.
 use Rattle.std.proofs.Common.{Some, ◌≤◌, le_refl, le_trans, count_by, arith, ◌≡◌, ℕ, zero, suc, ◌+◌, Bool, true, false, cond, List, [], ◌∷◌, ◌++◌, map, flat_map, refl, sym, ap, ◌∙◌, subst, Option, None, ◌⊎◌, inl, inr, true≢false}
-use Rattle.core_tree.specs.Tidy.{owns_some}
-use Rattle.std.specs.Prelude.{is_some, ◌&&◌, IsTrue, slice_get}
-use Rattle.std.proofs.lemmas.Bool.{cases_eq, eq-eqb}
+use Rattle.std.specs.Prelude.{◌&&◌, IsTrue, slice_get}
+use Rattle.std.proofs.lemmas.Bool.{cases_eq}
 use Rattle.vala_types.specs.declared.types.Shape.{Shape}
 use Rattle.vala_types.specs.declared.types.Shape.TheVariants as shape
 use Rattle.vala_types.specs.declared.types.VType.{VType}
@@ -102,31 +101,22 @@ owning_owns : (t n : ℕ) (ps : List Place) → IsTrue (Owned.owns_in t (slice_g
 owning_owns t n ps h = Owned.and_left (owning_in (slice_get ps n)) (is_thing t (owned_by (held_in (slice_get ps n)))) (subst IsTrue (Owned.owns_by t (slice_get ps n)) h)
 
 -- what lives is owned where it goes
-carried_if : (s : State.State) (n : ℕ) (b : Bool) (w : Option ℕ) → owning_in (slice_get s.places n) ≡ b → owned_by (held s n) ≡ w → ((t : ℕ) → Owned.Own t s.places → Owned.IsLive s.things t) → Owned.bit (b && is_some w) ≤ Owned.bit (is_some (owned_by (ownable s (held s n))))
-carried_if s n false w e q h = omega arith
-carried_if s n true None e q h = omega arith
-carried_if s n true (Some t) e q h =
-    let mine : IsTrue (is_thing t (owned_by (held s n))) = subst (λ o. IsTrue (is_thing t o)) (sym q) (eq-eqb t t refl) in
-    let own = Owned.own-at t n s.places (subst IsTrue (sym (Owned.owns_by t (slice_get s.places n))) (Owned.and_both (owning_in (slice_get s.places n)) (is_thing t (owned_by (held s n))) e mine)) in
-    let kept = Owned.ownable_kept s (held s n) t (h t own) mine in
-    some_thing t (owned_by (ownable s (held s n))) kept
-  where
-    some_thing : (u : ℕ) (o : Option ℕ) → IsTrue (is_thing u o) → 1 ≤ Owned.bit (is_some o)
-    some_thing u None k = absurd (no k)
-    some_thing u (Some x) k = omega arith
+carried_if : (s : State.State) (n t : ℕ) (b : Bool) → Owned.owns_in t (slice_get s.places n) ≡ b → ((u : ℕ) → Owned.Own u s.places → Owned.IsLive s.things u) → Owned.bit b ≤ Owned.bit (is_thing t (owned_by (ownable s (held s n))))
+carried_if s n t false e h = omega arith
+carried_if s n t true e h = (let a = ap Owned.bit (Owned.ownable_kept s (held s n) t (h t (Owned.own-at t n s.places e)) (held_owned t n s.places e)) in omega arith)
 
-pub carried_some : (s : State.State) (n : ℕ) → ((t : ℕ) → Owned.Own t s.places → Owned.IsLive s.things t) → Owned.bit (Owned.owns_some_in (slice_get s.places n)) ≤ Owned.bit (is_some (owned_by (ownable s (held s n))))
-carried_some s n h = (let a = ap Owned.bit (Owned.owns_some_by (slice_get s.places n)) in let b = carried_if s n (owning_in (slice_get s.places n)) (owned_by (held s n)) refl refl h in omega arith)
+bit-carried : (s : State.State) (n t : ℕ) → ((u : ℕ) → Owned.Own u s.places → Owned.IsLive s.things u) → Owned.bit (Owned.owns_in t (slice_get s.places n)) ≤ Owned.bit (is_thing t (owned_by (ownable s (held s n))))
+bit-carried s n t h = carried_if s n t (Owned.owns_in t (slice_get s.places n)) refl h
 
-count-put_null : (ps : List Place) (n : ℕ) (v : Value) → owned_by v ≡ None → count_by owns_some (put_in ps n v) + Owned.bit (Owned.owns_some_in (slice_get ps n)) ≡ count_by owns_some ps
-count-put_null ps n v e = (let a = Owned.count-put ps n v in let b = ap (λ o. Owned.bit (owning_in (slice_get ps n) && is_some o)) e in let c = Owned.bit_none (owning_in (slice_get ps n)) in omega arith)
+pub count-put_null : (t : ℕ) (ps : List Place) (n : ℕ) (v : Value) → owned_by v ≡ None → count_by (owns t) (put_in ps n v) + Owned.bit (Owned.owns_in t (slice_get ps n)) ≡ count_by (owns t) ps
+count-put_null t ps n v e = (let a = Owned.count-put t ps n v in let b = ap (λ o. Owned.bit (owning_in (slice_get ps n) && is_thing t o)) e in let c = Owned.bit_none (owning_in (slice_get ps n)) in omega arith)
 
-some-put_null : (ps : List Place) (n m : ℕ) (v : Value) → owned_by v ≡ None → Owned.bit (Owned.owns_some_in (slice_get (put_in ps n v) m)) ≤ Owned.bit (Owned.owns_some_in (slice_get ps m))
-some-put_null [] n m v e = omega arith
-some-put_null (p ∷ ps) zero zero v e = (let a = ap (λ o. Owned.bit (p.owning && is_some o)) e in let b = Owned.bit_none p.owning in omega arith)
-some-put_null (p ∷ ps) zero (suc m) v e = le_refl _
-some-put_null (p ∷ ps) (suc n) zero v e = le_refl _
-some-put_null (p ∷ ps) (suc n) (suc m) v e = some-put_null ps n m v e
+bit-put_null : (t : ℕ) (ps : List Place) (n m : ℕ) (v : Value) → owned_by v ≡ None → Owned.bit (Owned.owns_in t (slice_get (put_in ps n v) m)) ≤ Owned.bit (Owned.owns_in t (slice_get ps m))
+bit-put_null t [] n m v e = omega arith
+bit-put_null t (p ∷ ps) zero zero v e = (let a = ap (λ o. Owned.bit (p.owning && is_thing t o)) e in let b = Owned.bit_none p.owning in omega arith)
+bit-put_null t (p ∷ ps) zero (suc m) v e = le_refl _
+bit-put_null t (p ∷ ps) (suc n) zero v e = le_refl _
+bit-put_null t (p ∷ ps) (suc n) (suc m) v e = bit-put_null t ps n m v e
 
 -- a place becomes null, and what it held goes into a new one
 pub carries_carried : (s : State.State) (n : ℕ) → Owned.Carries None s.things s.places (put_in s.places n Null ++ record { owning = true; holds = ownable s (held s n); within = None } ∷ [])
@@ -143,7 +133,7 @@ carries_carried s n =
             | inl a ↦ inl (own-put_null t n s.places Null refl a)
             | inr b ↦ elim b [ inl c ↦ inr (Owned.ownable_lives s (held s n) t c) | inr z ↦ absurd z ]
           ];
-      counts = λ l. (let a = count-put_null s.places n Null refl in let b = count-append owns_some (put_in s.places n Null) (p ∷ []) in let c = count-cons owns_some p [] in let d = carried_some s n l in omega arith);
+      counts = λ l t. (let a = count-put_null t s.places n Null refl in let b = count-append (owns t) (put_in s.places n Null) (p ∷ []) in let c = count-cons (owns t) p [] in let d = bit-carried s n t l in omega arith);
     }
 
 -- A place gets what leaves another, and what it held is given up.
@@ -162,7 +152,7 @@ carries_stored s n m e =
             | inl a ↦ inl (own-put_null t m s.places Null refl a)
             | inr b ↦ inr (Owned.ownable_lives s (held s m) t (Owned.and_right (owning_in (slice_get ps n)) (is_thing t (owned_by x)) b))
           ];
-      counts = λ l. (let a = count-put_null s.places m Null refl in let b = Owned.count-put ps n x in let c = ap (λ y. Owned.bit (y && is_some (owned_by x))) (owning-put s.places m n Null ∙ e) in let d = carried_some s m l in let f = some-put_null s.places m n Null refl in let g = Owned.some_held s.places n in omega arith);
+      counts = λ l t. (let a = count-put_null t s.places m Null refl in let b = Owned.count-put t ps n x in let c = ap (λ y. Owned.bit (y && is_thing t (owned_by x))) (owning-put s.places m n Null ∙ e) in let d = bit-carried s m t l in let f = bit-put_null t s.places m n Null refl in let g = Owned.count_held t s.places n in omega arith);
     }
 
 -- a place gets what can be owned, and what it held is given up
@@ -183,50 +173,50 @@ own-emptied_from : (t : ℕ) (ns : List ℕ) (ps : List Place) → Owned.Own t (
 own-emptied_from t [] ps h = h
 own-emptied_from t (n ∷ ns) ps h = own-put_null t n ps Null refl (own-emptied_from t ns (put_in ps n Null) h)
 
--- how many of these places own something
-abbrev pub lost : List Place → List ℕ → ℕ
-lost ps [] = 0
-lost ps (n ∷ ns) = Owned.bit (Owned.owns_some_in (slice_get ps n)) + lost ps ns
+-- how many of these places own the thing
+abbrev pub lost : ℕ → List Place → List ℕ → ℕ
+lost t ps [] = 0
+lost t ps (n ∷ ns) = Owned.bit (Owned.owns_in t (slice_get ps n)) + lost t ps ns
 
-lost-append : (ps : List Place) (ns ms : List ℕ) → lost ps (ns ++ ms) ≡ lost ps ns + lost ps ms
-lost-append ps [] ms = omega arith
-lost-append ps (n ∷ ns) ms = (let a = lost-append ps ns ms in omega arith)
+lost-append : (t : ℕ) (ps : List Place) (ns ms : List ℕ) → lost t ps (ns ++ ms) ≡ lost t ps ns + lost t ps ms
+lost-append t ps [] ms = omega arith
+lost-append t ps (n ∷ ns) ms = (let a = lost-append t ps ns ms in omega arith)
 
-lost_null : (ps : List Place) (n : ℕ) (ns : List ℕ) → lost (put_in ps n Null) ns ≤ lost ps ns
-lost_null ps n [] = omega arith
-lost_null ps n (m ∷ ns) = (let a = some-put_null ps n m Null refl in let b = lost_null ps n ns in omega arith)
+lost_null : (t : ℕ) (ps : List Place) (n : ℕ) (ns : List ℕ) → lost t (put_in ps n Null) ns ≤ lost t ps ns
+lost_null t ps n [] = omega arith
+lost_null t ps n (m ∷ ns) = (let a = bit-put_null t ps n m Null refl in let b = lost_null t ps n ns in omega arith)
 
-emptied-count : (ps : List Place) (ns : List ℕ) → count_by owns_some ps ≤ count_by owns_some (emptied_in ps ns) + lost ps ns
-emptied-count ps [] = omega arith
-emptied-count ps (n ∷ ns) = (let a = count-put_null ps n Null refl in let b = emptied-count (put_in ps n Null) ns in let c = lost_null ps n ns in omega arith)
+emptied-count : (t : ℕ) (ps : List Place) (ns : List ℕ) → count_by (owns t) ps ≤ count_by (owns t) (emptied_in ps ns) + lost t ps ns
+emptied-count t ps [] = omega arith
+emptied-count t ps (n ∷ ns) = (let a = count-put_null t ps n Null refl in let b = emptied-count t (put_in ps n Null) ns in let c = lost_null t ps n ns in omega arith)
 
 -- what lives and was in these places is in those
 pub record Lands (s : State.State) (ns : List ℕ) (qs : List Place) : Type 0 where
   pub takes : Owned.Takes s.things qs
   pub moved : (n t : ℕ) → In n ns → Owned.IsLive s.things t → IsTrue (Owned.owns_in t (slice_get s.places n)) → Owned.Own t qs
-  pub counts : ((t : ℕ) → Owned.Own t s.places → Owned.IsLive s.things t) → lost s.places ns ≤ count_by owns_some qs
+  pub counts : ((t : ℕ) → Owned.Own t s.places → Owned.IsLive s.things t) → (t : ℕ) → lost t s.places ns ≤ count_by (owns t) qs
 
 pub carries_moved : (s : State.State) (ns : List ℕ) (qs : List Place) → Lands s ns qs → Owned.Carries None s.things s.places (emptied_in s.places ns ++ qs)
 carries_moved s ns qs h =
     record {
       to = λ t l o. elim (own-emptied_to t ns s.places o) [ inl a ↦ inl (Owned.own-left t (emptied_in s.places ns) qs a) | inr b ↦ inl (Owned.own-right t (emptied_in s.places ns) qs (h.moved b.0 t b.1 l b.2)) ];
       from = λ t o. elim (Owned.own-split t (emptied_in s.places ns) qs o) [ inl a ↦ inl (own-emptied_from t ns s.places a) | inr b ↦ inr (h.takes.by t b) ];
-      counts = λ l. (let a = emptied-count s.places ns in let b = h.counts l in let c = count-append owns_some (emptied_in s.places ns) qs in omega arith);
+      counts = λ l t. (let a = emptied-count t s.places ns in let b = h.counts l t in let c = count-append (owns t) (emptied_in s.places ns) qs in omega arith);
     }
 
 pub lands_nothing : (s : State.State) → Lands s [] []
-lands_nothing s = record { takes = Owned.takes_nil s.things; moved = λ n t i. absurd i; counts = λ h. omega arith }
+lands_nothing s = record { takes = Owned.takes_nil s.things; moved = λ n t i. absurd i; counts = λ h t. omega arith }
 
 pub lands_append : (s : State.State) (ns ms : List ℕ) (qs rs : List Place) → Lands s ns qs → Lands s ms rs → Lands s (ns ++ ms) (qs ++ rs)
 lands_append s ns ms qs rs h k =
     record {
       takes = Owned.takes_append s.things qs rs h.takes k.takes;
       moved = λ n t i l o. elim (in-append n ns ms i) [ inl a ↦ Owned.own-left t qs rs (h.moved n t a l o) | inr b ↦ Owned.own-right t qs rs (k.moved n t b l o) ];
-      counts = λ l. (let a = h.counts l in let b = k.counts l in let c = lost-append s.places ns ms in let d = count-append owns_some qs rs in omega arith);
+      counts = λ l t. (let a = h.counts l t in let b = k.counts l t in let c = lost-append t s.places ns ms in let d = count-append (owns t) qs rs in omega arith);
     }
 
 pub lands_more : (s : State.State) (ns : List ℕ) (qs rs : List Place) → Lands s ns qs → Owned.Takes s.things rs → Lands s ns (qs ++ rs)
-lands_more s ns qs rs h k = record { takes = Owned.takes_append s.things qs rs h.takes k; moved = λ n t i l o. Owned.own-left t qs rs (h.moved n t i l o); counts = λ l. (let a = h.counts l in let b = count-append owns_some qs rs in omega arith) }
+lands_more s ns qs rs h k = record { takes = Owned.takes_append s.things qs rs h.takes k; moved = λ n t i l o. Owned.own-left t qs rs (h.moved n t i l o); counts = λ l t. (let a = h.counts l t in let b = count-append (owns t) qs rs in omega arith) }
 
 -- what stands in the temporary is the value, of each
 abbrev pub stands_in : State.State → Value → Option ℕ → Type 0
@@ -260,7 +250,7 @@ fills_cell s v true = Owned.fills_ownable s v None
 fills_cell s v false = fills_unowning s.things _ refl
 
 lands_cell : (s : State.State) (v : Value) (left : Option ℕ) (ns : List ℕ) (qs : List Place) (b : Bool) → stands_in s v left → Lands s ns qs → Lands s (cond b (with_left left ns) ns) (record { owning = b; holds = cond b (ownable s v) v; within = None } ∷ qs)
-lands_cell s v None ns qs true h k = record { takes = Owned.takes_item s.things _ qs (fills_cell s v true) k.takes; moved = λ n t i l o. inr (k.moved n t i l o); counts = λ l. (let a = k.counts l in let b = count-cons owns_some (record { owning = true; holds = ownable s v; within = None }) qs in omega arith) }
+lands_cell s v None ns qs true h k = record { takes = Owned.takes_item s.things _ qs (fills_cell s v true) k.takes; moved = λ n t i l o. inr (k.moved n t i l o); counts = λ l t. (let a = k.counts l t in let b = count-cons (owns t) (record { owning = true; holds = ownable s v; within = None }) qs in omega arith) }
 lands_cell s v (Some m) ns qs true h k =
     record {
       takes = Owned.takes_item s.things _ qs (fills_cell s v true) k.takes;
@@ -269,13 +259,13 @@ lands_cell s v (Some m) ns qs true h k =
             | inl e ↦ inl (Owned.ownable_kept s v t l (subst (λ x. IsTrue (is_thing t (owned_by x))) (sym (ap (held s) e) ∙ h) (held_owned t n s.places o)))
             | inr j ↦ inr (k.moved n t j l o)
           ];
-      counts = λ l. (let a = k.counts l in let b = count-cons owns_some (record { owning = true; holds = ownable s v; within = None }) qs in let c = carried_some s m l in let d = ap (λ x. Owned.bit (is_some (owned_by (ownable s x)))) h in omega arith);
+      counts = λ l t. (let a = k.counts l t in let b = count-cons (owns t) (record { owning = true; holds = ownable s v; within = None }) qs in let c = bit-carried s m t l in let d = ap (λ x. Owned.bit (is_thing t (owned_by (ownable s x)))) h in omega arith);
     }
-lands_cell s v left ns qs false h k = record { takes = Owned.takes_item s.things _ qs (fills_cell s v false) k.takes; moved = λ n t i l o. inr (k.moved n t i l o); counts = λ l. (let a = k.counts l in let b = count-cons owns_some (record { owning = false; holds = v; within = None }) qs in omega arith) }
+lands_cell s v left ns qs false h k = record { takes = Owned.takes_item s.things _ qs (fills_cell s v false) k.takes; moved = λ n t i l o. inr (k.moved n t i l o); counts = λ l t. (let a = k.counts l t in let b = count-cons (owns t) (record { owning = false; holds = v; within = None }) qs in omega arith) }
 
 pub lands_filled : (s : State.State) (kinds : List VType) (ps : List Filling) → Stand s ps → Lands s (left_by kinds ps) (filled s kinds ps)
 lands_filled s [] ps h = lands_nothing s
-lands_filled s (kind ∷ kinds) [] h = record { takes = Owned.takes_item s.things (empty_place None kind) (filled s kinds []) (fills_nothing s.things (empty_place None kind) (zero_owns kind.shape)) (lands_filled s kinds [] tt).takes; moved = λ n t i. absurd i; counts = λ l. omega arith }
+lands_filled s (kind ∷ kinds) [] h = record { takes = Owned.takes_item s.things (empty_place None kind) (filled s kinds []) (fills_nothing s.things (empty_place None kind) (zero_owns kind.shape)) (lands_filled s kinds [] tt).takes; moved = λ n t i. absurd i; counts = λ l t. omega arith }
 lands_filled s (kind ∷ kinds) (p ∷ ps) h = lands_cell s p.value p.left (left_by kinds ps) (filled s kinds ps) (is_owning kind) h.0 (lands_filled s kinds ps h.1)
 
 own-within : (t u : ℕ) (ps : List Place) → Owned.Own t (within_thing u ps) → Owned.Own t ps
@@ -288,12 +278,12 @@ within-own t u [] h = h
 within-own t u (p ∷ ps) (inl h) = inl h
 within-own t u (p ∷ ps) (inr h) = inr (within-own t u ps h)
 
-within-count : (u : ℕ) (ps : List Place) → count_by owns_some (within_thing u ps) ≡ count_by owns_some ps
-within-count u [] = refl
-within-count u (p ∷ ps) = (let a = count-cons owns_some p ps in let b = count-cons owns_some (record p { within = Some u }) (within_thing u ps) in let c = within-count u ps in omega arith)
+within-count : (t u : ℕ) (ps : List Place) → count_by (owns t) (within_thing u ps) ≡ count_by (owns t) ps
+within-count t u [] = refl
+within-count t u (p ∷ ps) = (let a = count-cons (owns t) p ps in let b = count-cons (owns t) (record p { within = Some u }) (within_thing u ps) in let c = within-count t u ps in omega arith)
 
 pub lands_within : (s : State.State) (u : ℕ) (ns : List ℕ) (qs : List Place) → Lands s ns qs → Lands s ns (within_thing u qs)
-lands_within s u ns qs h = record { takes = record { by = λ t o. h.takes.by t (own-within t u qs o) }; moved = λ n t i l o. within-own t u qs (h.moved n t i l o); counts = λ l. (let a = h.counts l in let b = within-count u qs in omega arith) }
+lands_within s u ns qs h = record { takes = record { by = λ t o. h.takes.by t (own-within t u qs o) }; moved = λ n t i l o. within-own t u qs (h.moved n t i l o); counts = λ l t. (let a = h.counts l t in let b = within-count t u qs in omega arith) }
 
 -- Arguments
 
@@ -363,48 +353,36 @@ same_is true false e = absurd (true≢false (sym e))
 same_is false true e = absurd (true≢false (sym e))
 same_is false false e = refl
 
-some-put_other : (ps : List Place) (n m : ℕ) (v : Value) → (m ≡ n → ⊥) → Owned.owns_some_in (slice_get (put_in ps n v) m) ≡ Owned.owns_some_in (slice_get ps m)
-some-put_other [] n m v d = refl
-some-put_other (p ∷ ps) zero zero v d = absurd (d refl)
-some-put_other (p ∷ ps) zero (suc m) v d = refl
-some-put_other (p ∷ ps) (suc n) zero v d = refl
-some-put_other (p ∷ ps) (suc n) (suc m) v d = some-put_other ps n m v (λ e. d (ap suc e))
-
-some-put_same : (ps : List Place) (n : ℕ) (v : Value) → Owned.owns_some_in (slice_get (put_in ps n v) n) ≡ (owning_in (slice_get ps n) && is_some (owned_by v))
-some-put_same [] n v = refl
-some-put_same (p ∷ ps) zero v = refl
-some-put_same (p ∷ ps) (suc n) v = some-put_same ps n v
-
-exchange-count : (ps : List Place) (n m : ℕ) → same_owning (owning_in (slice_get ps n)) (owning_in (slice_get ps m)) ≡ true → count_by owns_some (put_in (put_in ps n (held_in (slice_get ps m))) m (held_in (slice_get ps n))) ≡ count_by owns_some ps
-exchange-count ps n m e =
+exchange-count : (t : ℕ) (ps : List Place) (n m : ℕ) → same_owning (owning_in (slice_get ps n)) (owning_in (slice_get ps m)) ≡ true → count_by (owns t) (put_in (put_in ps n (held_in (slice_get ps m))) m (held_in (slice_get ps n))) ≡ count_by (owns t) ps
+exchange-count t ps n m e =
     let vm : Value = held_in (slice_get ps m) in
     let vn : Value = held_in (slice_get ps n) in
     let qs = put_in ps n vm in
     let same = same_is (owning_in (slice_get ps n)) (owning_in (slice_get ps m)) e in
-    let a = Owned.count-put ps n vm in
-    let b = Owned.count-put qs m vn in
-    let an = ap Owned.bit (Owned.owns_some_by (slice_get ps n)) in
-    let bm = ap (λ x. Owned.bit (x && is_some (owned_by vn))) (owning-put ps n m vm) in
-    let flags = ap (λ x. Owned.bit (x && is_some (owned_by vn))) same in
+    let a = Owned.count-put t ps n vm in
+    let b = Owned.count-put t qs m vn in
+    let an = ap Owned.bit (Owned.owns_by t (slice_get ps n)) in
+    let bm = ap (λ x. Owned.bit (x && is_thing t (owned_by vn))) (owning-put ps n m vm) in
+    let flags = ap (λ x. Owned.bit (x && is_thing t (owned_by vn))) same in
     elim (cases_eq m n) [
       | inl q ↦
-          let c = ap (λ k. Owned.bit (Owned.owns_some_in (slice_get qs k))) q ∙ ap Owned.bit (some-put_same ps n vm) in
-          let d : Owned.bit (owning_in (slice_get ps n) && is_some (owned_by vm)) ≡ Owned.bit (owning_in (slice_get ps n) && is_some (owned_by vn)) = ap (λ k. Owned.bit (owning_in (slice_get ps n) && is_some (owned_by (held_in (slice_get ps k))))) q in
+          let c = ap (λ k. Owned.bit (Owned.owns_in t (slice_get qs k))) q ∙ ap Owned.bit (owns-put_same t ps n vm) in
+          let d : Owned.bit (owning_in (slice_get ps n) && is_thing t (owned_by vm)) ≡ Owned.bit (owning_in (slice_get ps n) && is_thing t (owned_by vn)) = ap (λ k. Owned.bit (owning_in (slice_get ps n) && is_thing t (owned_by (held_in (slice_get ps k))))) q in
           omega arith
       | inr d ↦
-          let c = ap Owned.bit (some-put_other ps n m vm d) ∙ ap Owned.bit (Owned.owns_some_by (slice_get ps m)) in
-          let f = ap (λ x. Owned.bit (x && is_some (owned_by vm))) same in
+          let c = ap Owned.bit (owns-put_other t ps n m vm d) ∙ ap Owned.bit (Owned.owns_by t (slice_get ps m)) in
+          let f = ap (λ x. Owned.bit (x && is_thing t (owned_by vm))) same in
           omega arith
     ]
 
-exchange-count_if : (ps : List Place) (n m : ℕ) (b : Bool) → same_owning (owning_in (slice_get ps n)) (owning_in (slice_get ps m)) ≡ b → count_by owns_some (cond b (put_in (put_in ps n (held_in (slice_get ps m))) m (held_in (slice_get ps n))) ps) ≡ count_by owns_some ps
-exchange-count_if ps n m true e = exchange-count ps n m e
-exchange-count_if ps n m false e = refl
+exchange-count_if : (t : ℕ) (ps : List Place) (n m : ℕ) (b : Bool) → same_owning (owning_in (slice_get ps n)) (owning_in (slice_get ps m)) ≡ b → count_by (owns t) (cond b (put_in (put_in ps n (held_in (slice_get ps m))) m (held_in (slice_get ps n))) ps) ≡ count_by (owns t) ps
+exchange-count_if t ps n m true e = exchange-count t ps n m e
+exchange-count_if t ps n m false e = refl
 
-exchanged-count : (ns ms : List ℕ) (ps : List Place) → count_by owns_some (exchanged_in ps ns ms) ≡ count_by owns_some ps
-exchanged-count [] ms ps = refl
-exchanged-count (n ∷ ns) [] ps = refl
-exchanged-count (n ∷ ns) (m ∷ ms) ps = exchanged-count ns ms (exchange_in ps n m) ∙ exchange-count_if ps n m (same_owning (owning_in (slice_get ps n)) (owning_in (slice_get ps m))) refl
+exchanged-count : (t : ℕ) (ns ms : List ℕ) (ps : List Place) → count_by (owns t) (exchanged_in ps ns ms) ≡ count_by (owns t) ps
+exchanged-count t [] ms ps = refl
+exchanged-count t (n ∷ ns) [] ps = refl
+exchanged-count t (n ∷ ns) (m ∷ ms) ps = exchanged-count t ns ms (exchange_in ps n m) ∙ exchange-count_if t ps n m (same_owning (owning_in (slice_get ps n)) (owning_in (slice_get ps m))) refl
 
 exchange_if : (s : State.State) (ps : List Place) (n m : ℕ) (b : Bool) → same_owning (owning_in (slice_get ps n)) (owning_in (slice_get ps m)) ≡ b → (t : ℕ)
     → (Owned.Own t ps → Owned.Own t (cond b (put_in (put_in ps n (held_in (slice_get ps m))) m (held_in (slice_get ps n))) ps)) × (Owned.Own t (cond b (put_in (put_in ps n (held_in (slice_get ps m))) m (held_in (slice_get ps n))) ps) → Owned.Own t ps)
@@ -420,7 +398,7 @@ exchanged-own s (n ∷ ns) (m ∷ ms) ps t =
     (λ o. more.0 (one.0 o), λ o. one.1 (more.1 o))
 
 pub carries_exchanged : (s : State.State) (ns ms : List ℕ) → Owned.Carries None s.things s.places (exchanged_in s.places ns ms)
-carries_exchanged s ns ms = record { to = λ t l o. inl ((exchanged-own s ns ms s.places t).0 o); from = λ t o. inl ((exchanged-own s ns ms s.places t).1 o); counts = λ l. (let a = exchanged-count ns ms s.places in omega arith) }
+carries_exchanged s ns ms = record { to = λ t l o. inl ((exchanged-own s ns ms s.places t).0 o); from = λ t o. inl ((exchanged-own s ns ms s.places t).1 o); counts = λ l t. (let a = exchanged-count t ns ms s.places in omega arith) }
 
 -- cells that are taken
 
@@ -447,15 +425,15 @@ own-taken s t [] n h = absurd h
 own-taken s t (kind ∷ kinds) n (inl h) = Owned.own-at t n s.places (subst IsTrue (sym (Owned.owns_by t (slice_get s.places n))) h)
 own-taken s t (kind ∷ kinds) n (inr h) = own-taken s t kinds (suc n) h
 
-zeroed-count : (s : State.State) (kinds : List VType) (n : ℕ) (ps : List Place) → ((m : ℕ) → Owned.bit (Owned.owns_some_in (slice_get ps m)) ≤ Owned.bit (Owned.owns_some_in (slice_get s.places m))) → count_by owns_some ps ≤ count_by owns_some (zeroed_in ps kinds n) + count_by owns_some (cells_taken s kinds n)
-zeroed-count s [] n ps h = omega arith
-zeroed-count s (kind ∷ kinds) n ps h =
+zeroed-count : (s : State.State) (t : ℕ) (kinds : List VType) (n : ℕ) (ps : List Place) → ((m : ℕ) → Owned.bit (Owned.owns_in t (slice_get ps m)) ≤ Owned.bit (Owned.owns_in t (slice_get s.places m))) → count_by (owns t) ps ≤ count_by (owns t) (zeroed_in ps kinds n) + count_by (owns t) (cells_taken s kinds n)
+zeroed-count s t [] n ps h = omega arith
+zeroed-count s t (kind ∷ kinds) n ps h =
     let qs = put_in ps n (zero_of kind.shape) in
     let p : Place = record { owning = is_owning_place s n; holds = held s n; within = None } in
-    let a = count-put_null ps n (zero_of kind.shape) (zero_owns kind.shape) in
-    let b = zeroed-count s kinds (suc n) qs (λ m. le_trans (some-put_null ps n m (zero_of kind.shape) (zero_owns kind.shape)) (h m)) in
-    let c = count-cons owns_some p (cells_taken s kinds (suc n)) in
-    let d = ap Owned.bit (Owned.owns_some_by (slice_get s.places n)) in
+    let a = count-put_null t ps n (zero_of kind.shape) (zero_owns kind.shape) in
+    let b = zeroed-count s t kinds (suc n) qs (λ m. le_trans (bit-put_null t ps n m (zero_of kind.shape) (zero_owns kind.shape)) (h m)) in
+    let c = count-cons (owns t) p (cells_taken s kinds (suc n)) in
+    let d = ap Owned.bit (Owned.owns_by t (slice_get s.places n)) in
     let f = h n in
     omega arith
 
@@ -464,7 +442,7 @@ carries_taken s kinds n =
     record {
       to = λ t l o. inl (own-zeroed_to s t kinds n s.places (λ m h. h) o);
       from = λ t o. elim (Owned.own-split t (zeroed_in s.places kinds n) (cells_taken s kinds n) o) [ inl a ↦ inl (own-zeroed_from t kinds n s.places a) | inr b ↦ inl (own-taken s t kinds n b) ];
-      counts = λ l. (let a = zeroed-count s kinds n s.places (λ m. le_refl (Owned.bit (Owned.owns_some_in (slice_get s.places m)))) in let b = count-append owns_some (zeroed_in s.places kinds n) (cells_taken s kinds n) in omega arith);
+      counts = λ l t. (let a = zeroed-count s t kinds n s.places (λ m. le_refl (Owned.bit (Owned.owns_in t (slice_get s.places m)))) in let b = count-append (owns t) (zeroed_in s.places kinds n) (cells_taken s kinds n) in omega arith);
     }
 
 -- a delegate to a method owns its receiver

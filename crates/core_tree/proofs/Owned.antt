@@ -1,7 +1,6 @@
 -- Which things the places own, where places are filled and emptied.
-use Rattle.std.proofs.Common.{◌≡◌, ℕ, zero, suc, ◌+◌, ◌≤◌, ◌<◌, le_refl, Bool, true, false, not, cond, List, [], ◌∷◌, ◌++◌, length, count_by, refl, sym, ap, ◌∙◌, subst, arith, Option, Some, None, ◌⊎◌, inl, inr, true≢false}
-use Rattle.core_tree.specs.Tidy.{owns_some}
-use Rattle.std.specs.Prelude.{is_some, ◌==◌, ◌&&◌, IsTrue, slice_get}
+use Rattle.std.proofs.Common.{◌≡◌, ℕ, zero, suc, ◌+◌, ◌≤◌, ◌<◌, le_refl, Bool, true, false, not, cond, List, [], ◌∷◌, ◌++◌, length, length-append, count_by, refl, sym, ap, ◌∙◌, subst, arith, Option, Some, None, ◌⊎◌, inl, inr, true≢false}
+use Rattle.std.specs.Prelude.{◌==◌, ◌&&◌, IsTrue, slice_get}
 use Rattle.std.proofs.lemmas.Bool.{eqb-true, eq-eqb}
 use Rattle.core_tree.specs.State
 use Rattle.core_tree.specs.State.{Value, Null, Thing, Place, Status, Live, Ending, Gone, ThingState}
@@ -25,6 +24,12 @@ pub own-at : (t n : ℕ) (ps : List Place) → IsTrue (owns_in t (slice_get ps n
 own-at t n [] h = absurd (no h)
 own-at t zero (p ∷ ps) h = inl h
 own-at t (suc n) (p ∷ ps) h = inr (own-at t n ps h)
+
+-- which place owns the thing
+pub own-found : (t : ℕ) (ps : List Place) → Own t ps → (n : ℕ) × IsTrue (owns_in t (slice_get ps n))
+own-found t [] h = absurd h
+own-found t (p ∷ ps) (inl h) = (0, h)
+own-found t (p ∷ ps) (inr h) = let f = own-found t ps h in (suc f.0, f.1)
 
 pub own-left : (t : ℕ) (ps qs : List Place) → Own t ps → Own t (ps ++ qs)
 own-left t [] qs h = absurd h
@@ -96,31 +101,10 @@ own_counted t [] h = absurd h
 own_counted t (p ∷ ps) (inl h) = (let a = count-cons (owns t) p ps in let b : cond {A = ℕ} (owns t p) 1 0 ≡ 1 = ap (λ (x : Bool). cond {A = ℕ} x 1 0) h in omega arith)
 own_counted t (p ∷ ps) (inr h) = (let a = count-cons (owns t) p ps in let b = own_counted t ps h in omega arith)
 
--- How many places own something
+-- How many places own the thing
 
 abbrev pub bit : Bool → ℕ
 bit b = cond b 1 0
-
--- one, where something is given up
-abbrev pub weight : Option ℕ → ℕ
-weight None = 0
-weight (Some t) = 1
-
-pub weight_is : (o : Option ℕ) → bit (is_some o) ≡ weight o
-weight_is None = refl
-weight_is (Some t) = refl
-
-pub weight_le : (o : Option ℕ) → weight o ≤ 1
-weight_le None = omega arith
-weight_le (Some t) = omega arith
-
-abbrev pub owns_some_in : Option Place → Bool
-owns_some_in None = false
-owns_some_in (Some p) = owns_some p
-
-pub owns_some_by : (o : Option Place) → owns_some_in o ≡ (owning_in o && is_some (owned_by (held_in o)))
-owns_some_by None = refl
-owns_some_by (Some p) = refl
 
 pub bit_and : (a b : Bool) → bit (a && b) ≤ bit b
 bit_and true b = le_refl (bit b)
@@ -135,17 +119,41 @@ bit_le true = omega arith
 bit_le false = omega arith
 
 -- what a place owned is what it held
-pub some_held : (ps : List Place) (n : ℕ) → bit (owns_some_in (slice_get ps n)) ≤ weight (owned_by (held_in (slice_get ps n)))
-some_held ps n =
-    let a = ap bit (owns_some_by (slice_get ps n)) in
-    let b = bit_and (owning_in (slice_get ps n)) (is_some (owned_by (held_in (slice_get ps n)))) in
-    let c = weight_is (owned_by (held_in (slice_get ps n))) in
+pub count_held : (t : ℕ) (ps : List Place) (n : ℕ) → bit (owns_in t (slice_get ps n)) ≤ bit (is_thing t (owned_by (held_in (slice_get ps n))))
+count_held t ps n =
+    let a = ap bit (owns_by t (slice_get ps n)) in
+    let b = bit_and (owning_in (slice_get ps n)) (is_thing t (owned_by (held_in (slice_get ps n)))) in
     omega arith
 
-pub count-put : (ps : List Place) (n : ℕ) (v : Value) → count_by owns_some (put_in ps n v) + bit (owns_some_in (slice_get ps n)) ≡ count_by owns_some ps + bit (owning_in (slice_get ps n) && is_some (owned_by v))
-count-put [] n v = refl
-count-put (p ∷ ps) zero v = (let a = count-cons owns_some p ps in let b = count-cons owns_some (record p { holds = v }) ps in omega arith)
-count-put (p ∷ ps) (suc n) v = (let a = count-cons owns_some p ps in let b = count-cons owns_some p (put_in ps n v) in let c = count-put ps n v in omega arith)
+pub count-put : (t : ℕ) (ps : List Place) (n : ℕ) (v : Value) → count_by (owns t) (put_in ps n v) + bit (owns_in t (slice_get ps n)) ≡ count_by (owns t) ps + bit (owning_in (slice_get ps n) && is_thing t (owned_by v))
+count-put t [] n v = refl
+count-put t (p ∷ ps) zero v = (let a = count-cons (owns t) p ps in let b = count-cons (owns t) (record p { holds = v }) ps in omega arith)
+count-put t (p ∷ ps) (suc n) v = (let a = count-cons (owns t) p ps in let b = count-cons (owns t) p (put_in ps n v) in let c = count-put t ps n v in omega arith)
+
+-- From places to others: which things lose an owner, each as often as it stands here. What was given up before or is after it counts as one more.
+pub record Loses (most : ℕ) (before after : Option ℕ) (ps qs : List Place) : Type 0 where
+  pub losers : List ℕ
+  pub few : length losers ≤ most
+  pub counts : (t : ℕ) → count_by (owns t) ps + bit (is_thing t before) ≤ count_by (owns t) qs + bit (is_thing t after) + count_by (λ u. t == u) losers
+
+pub loses_none : {most : ℕ} {after : Option ℕ} → (ps qs : List Place) → ((t : ℕ) → count_by (owns t) ps ≤ count_by (owns t) qs + bit (is_thing t after)) → Loses most None after ps qs
+loses_none ps qs h = record { losers = []; few = omega arith; counts = λ t. (let a = h t in let z : count_by (λ u. t == u) [] ≡ 0 = refl in omega arith) }
+
+pub loses_same : {most : ℕ} → (ps : List Place) → Loses most None None ps ps
+loses_same ps = loses_none ps ps (λ t. omega arith)
+
+-- what was given up is lost
+pub loses_over : (over : Option ℕ) (ps : List Place) → Loses 1 over None ps ps
+loses_over None ps = loses_same ps
+loses_over (Some o) ps = record { losers = o ∷ []; few = omega arith; counts = λ t. (let a = count-cons (λ u. t == u) o [] in let z : count_by (λ u. t == u) [] ≡ 0 = refl in omega arith) }
+
+pub loses_then : (a b : ℕ) (before mid after : Option ℕ) (ps qs rs : List Place) → Loses a before mid ps qs → Loses b mid after qs rs → Loses (a + b) before after ps rs
+loses_then a b before mid after ps qs rs h k =
+    record {
+      losers = h.losers ++ k.losers;
+      few = (let x = length-append h.losers k.losers in let y = h.few in let z = k.few in omega arith);
+      counts = λ t. (let x = count-append (λ u. t == u) h.losers k.losers in let y = h.counts t in let z = k.counts t in omega arith);
+    }
 
 -- Tidiness
 
@@ -161,10 +169,10 @@ pub record Tidy (over : Option ℕ) (xs : List ThingState) (ps : List Place) : T
 pub record Carries (over : Option ℕ) (xs : List ThingState) (ps qs : List Place) : Type 0 where
   pub to : (t : ℕ) → IsLive xs t → Own t ps → Own t qs ⊎ IsTrue (is_thing t over)
   pub from : (t : ℕ) → Own t qs → Own t ps ⊎ IsLive xs t
-  pub counts : ((t : ℕ) → Own t ps → IsLive xs t) → count_by owns_some ps ≤ count_by owns_some qs + weight over
+  pub counts : ((t : ℕ) → Own t ps → IsLive xs t) → (t : ℕ) → count_by (owns t) ps ≤ count_by (owns t) qs + bit (is_thing t over)
 
 pub carries_same : {over : Option ℕ} → (xs : List ThingState) (ps : List Place) → Carries over xs ps ps
-carries_same {over} xs ps = record { to = λ t l h. inl h; from = λ t h. inl h; counts = λ h. omega arith }
+carries_same {over} xs ps = record { to = λ t l h. inl h; from = λ t h. inl h; counts = λ h t. omega arith }
 
 pub tidy_carried : (over : Option ℕ) (xs : List ThingState) (ps qs : List Place) → Carries over xs ps qs → Tidy None xs ps → Tidy over xs qs
 tidy_carried over xs ps qs c h =
@@ -198,19 +206,19 @@ carries_more over xs ps qs rs c h =
     record {
       to = λ t l o. elim (c.to t l o) [ inl a ↦ inl (own-left t qs rs a) | inr b ↦ inr b ];
       from = λ t o. elim (own-split t qs rs o) [ inl a ↦ c.from t a | inr b ↦ inr (h.by t b) ];
-      counts = λ l. (let a = c.counts l in let b = count-append owns_some qs rs in omega arith);
+      counts = λ l t. (let a = c.counts l t in let b = count-append (owns t) qs rs in omega arith);
     }
 
 -- a place that does not own
-some_not : (ps : List Place) (n : ℕ) → owning_in (slice_get ps n) ≡ false → bit (owns_some_in (slice_get ps n)) ≡ 0
-some_not ps n e = ap bit (owns_some_by (slice_get ps n)) ∙ ap (λ x. bit (x && is_some (owned_by (held_in (slice_get ps n))))) e
+count_not : (t : ℕ) (ps : List Place) (n : ℕ) → owning_in (slice_get ps n) ≡ false → bit (owns_in t (slice_get ps n)) ≡ 0
+count_not t ps n e = ap bit (owns_by t (slice_get ps n)) ∙ ap (λ x. bit (x && is_thing t (owned_by (held_in (slice_get ps n))))) e
 
 pub carries_put : (xs : List ThingState) (ps : List Place) (n : ℕ) (v : Value) → owning_in (slice_get ps n) ≡ false → Carries None xs ps (put_in ps n v)
 carries_put xs ps n v e =
     record {
       to = λ t l o. elim (own-put_to t n ps v o) [ inl a ↦ inl a | inr b ↦ absurd (no (sym (sym (subst IsTrue (owns_by t (slice_get ps n)) b) ∙ ap (λ x. x && is_thing t (owned_by (held_in (slice_get ps n)))) e))) ];
       from = λ t o. elim (own-put_from t n ps v o) [ inl a ↦ inl a | inr b ↦ absurd (no (sym (sym b ∙ ap (λ x. x && is_thing t (owned_by v)) e))) ];
-      counts = λ l. (let a = count-put ps n v in let b = some_not ps n e in omega arith);
+      counts = λ l t. (let a = count-put t ps n v in let b = count_not t ps n e in omega arith);
     }
 
 -- One more thing
@@ -237,7 +245,7 @@ pub record Gains (over : Option ℕ) (xs : List ThingState) (ps qs : List Place)
   pub to : (t : ℕ) → IsLive xs t → Own t ps → Own t qs ⊎ IsTrue (is_thing t over)
   pub new : Own (suc (length xs)) qs
   pub from : (t : ℕ) → Own t qs → Own t ps ⊎ (IsLive xs t ⊎ (t ≡ suc (length xs)))
-  pub counts : ((t : ℕ) → Own t ps → IsLive xs t) → count_by owns_some ps ≤ count_by owns_some qs + weight over
+  pub counts : ((t : ℕ) → Own t ps → IsLive xs t) → (t : ℕ) → count_by (owns t) ps ≤ count_by (owns t) qs + bit (is_thing t over)
 
 pub tidy_gained : (over : Option ℕ) (xs ys : List ThingState) (x : ThingState) (ps qs : List Place) → ys ≡ xs ++ x ∷ [] → x.status ≡ Live → Gains over xs ps qs → Tidy None xs ps → Tidy over ys qs
 tidy_gained over xs ys x ps qs e l g h =
@@ -266,7 +274,7 @@ gains_last over xs ps qs within c =
             | inl a ↦ elim (c.from t a) [ inl b ↦ inl b | inr d ↦ inr (inl d) ]
             | inr b ↦ elim b [ inl d ↦ inr (inr (eqb-true t (suc (length xs)) d)) | inr z ↦ absurd z ]
           ];
-      counts = λ l. (let a = c.counts l in let b = count-append owns_some qs (p ∷ []) in omega arith);
+      counts = λ l t. (let a = c.counts l t in let b = count-append (owns t) qs (p ∷ []) in omega arith);
     }
 
 pub gains_more : (over : Option ℕ) (xs : List ThingState) (ps qs rs : List Place) → Gains over xs ps qs → Takes xs rs → Gains over xs ps (qs ++ rs)
@@ -275,7 +283,7 @@ gains_more over xs ps qs rs g h =
       to = λ t l o. elim (g.to t l o) [ inl a ↦ inl (own-left t qs rs a) | inr b ↦ inr b ];
       new = own-left (suc (length xs)) qs rs g.new;
       from = λ t o. elim (own-split t qs rs o) [ inl a ↦ g.from t a | inr b ↦ inr (inl (h.by t b)) ];
-      counts = λ l. (let a = g.counts l in let b = count-append owns_some qs rs in omega arith);
+      counts = λ l t. (let a = g.counts l t in let b = count-append (owns t) qs rs in omega arith);
     }
 
 -- an owning place is filled with the thing that is made, and what it held is given up
@@ -294,7 +302,7 @@ gains_put xs ps qs n c e =
             | inl a ↦ elim (c.from t a) [ inl b ↦ inl b | inr d ↦ inr (inl d) ]
             | inr b ↦ inr (inr (eqb-true t (suc (length xs)) (and_right (owning_in (slice_get qs n)) (t == suc (length xs)) b)))
           ];
-      counts = λ l. (let a = c.counts l in let b = count-put qs n v in let d = some_held qs n in omega arith);
+      counts = λ l t. (let a = c.counts l t in let b = count-put t qs n v in let d = count_held t qs n in omega arith);
     }
 
 -- A place is filled with what lives, and what it held is given up.
@@ -303,7 +311,7 @@ carries_fill xs ps n v f =
     record {
       to = λ t l o. elim (own-put_to t n ps v o) [ inl b ↦ inl b | inr b ↦ inr (and_right (owning_in (slice_get ps n)) (is_thing t (owned_by (held_in (slice_get ps n)))) (subst IsTrue (owns_by t (slice_get ps n)) b)) ];
       from = λ t o. elim (own-put_from t n ps v o) [ inl a ↦ inl a | inr b ↦ inr (f t (and_right (owning_in (slice_get ps n)) (is_thing t (owned_by v)) b)) ];
-      counts = λ l. (let a = count-put ps n v in let b = some_held ps n in omega arith);
+      counts = λ l t. (let a = count-put t ps n v in let b = count_held t ps n in omega arith);
     }
 
 -- What can be owned lives
@@ -346,7 +354,7 @@ carries_trans xs ps qs rs c d =
     record {
       to = λ t l o. elim (c.to t l o) [ inl a ↦ d.to t l a | inr b ↦ inr b ];
       from = λ t o. elim (d.from t o) [ inl a ↦ c.from t a | inr b ↦ inr b ];
-      counts = λ l. (let a = c.counts l in let b = d.counts (λ t o. elim (c.from t o) [ inl x ↦ l t x | inr y ↦ y ]) in omega arith);
+      counts = λ l t. (let a = c.counts l t in let b = d.counts (λ u o. elim (c.from u o) [ inl x ↦ l u x | inr y ↦ y ]) t in omega arith);
     }
 
 own_not_if : (t : ℕ) (p : Place) (ps : List Place) (b : Bool) → owns t p ≡ b → (IsTrue (owns t p) → ⊥) → count_by (owns t) ps ≡ 0 → cond {A = ℕ} b 1 0 + count_by (owns t) ps ≡ 0

@@ -1,5 +1,5 @@
 -- The laws on all runs: a run from the opening keeps what each of its steps keeps.
-use Rattle.std.proofs.Common.{Option, ◌≡◌, ℕ, zero, suc, ◌+◌, ◌-◌, ◌≤◌, ◌<◌, List, [], ◌∷◌, ◌++◌, length, All, Contains, refl, sym, ap, ◌∙◌, subst, arith, Some, None, true, true≢false, inl, inr}
+use Rattle.std.proofs.Common.{Option, ◌≡◌, ℕ, zero, suc, ◌+◌, ◌-◌, ◌≤◌, ◌<◌, List, [], ◌∷◌, ◌++◌, length, count_by, All, Contains, refl, sym, ap, ◌∙◌, subst, arith, Some, None, true, true≢false, inl, inr}
 use Rattle.std.specs.Prelude.{slice_index_or}
 use Rattle.vg_base.specs.Headline.{Said, events}
 use Rattle.vg_base.specs.Machine.{move, moves, said}
@@ -12,15 +12,15 @@ use Rattle.core_tree.specs.Places.{Out, firsts}
 use Rattle.core_tree.specs.Step.{meaning, opening, initial_items, static_types}
 use Rattle.core_tree.specs.Runs
 use Rattle.core_tree.specs.Runs.{progress, state_after, makings, gone_now, ending_now, by_status, is_going, past, dispatches, GivesOnce, handler_ids, source_ids}
-use Rattle.core_tree.proofs.Counts.{at, further_at, Ordered, ordered-at, In, in-contains, contains-in}
-use Rattle.core_tree.specs.Places.{status_in, empty_places}
+use Rattle.core_tree.proofs.Counts.{at, count-cons, further_at, Ordered, ordered-at, In, in-contains, contains-in}
+use Rattle.core_tree.specs.Places.{status_in, empty_places, put}
 use Rattle.core_tree.specs.Step.{arguments_place}
-use Rattle.core_tree.specs.Tidy.{owners, owning_places, endings, is_tidy_thing, are_tidy}
-use Rattle.core_tree.specs.State.{Live, Ending, Gone, Place}
-use Rattle.core_tree.proofs.Owned.{Tidy, Takes, takes_item, carries_same, own_counted, own_some, own_not, and_both}
-use Rattle.core_tree.proofs.Moved.{fills_nothing, takes_empty_places}
-use Rattle.std.specs.Prelude.{nat_le, ◌==◌, slice_get}
-use Rattle.std.proofs.lemmas.Bool.{eq-eqb, le-leb}
+use Rattle.core_tree.specs.Tidy.{owning_places, endings, is_tidy_thing, are_tidy}
+use Rattle.core_tree.specs.State.{Null, Live, Ending, Gone, Place}
+use Rattle.core_tree.proofs.Owned.{bit, bit_le, owns_in, own-found, Loses, Tidy, Takes, takes_item, carries_same, own_counted, own_some, own_not, and_both}
+use Rattle.core_tree.proofs.Moved.{fills_nothing, takes_empty_places, count-put_null}
+use Rattle.std.specs.Prelude.{IsTrue, nat_le, ◌==◌, slice_get}
+use Rattle.std.proofs.lemmas.Bool.{cases_eq, eq-eqb, ne_eqb, le-leb}
 use Rattle.core_tree.proofs.Kept.{Keeps, keeps_calm, keeps_then, calm_same, plain_item, plain_append, plain_nil, ids_of, source_ids_of}
 use Rattle.core_tree.proofs.Keeps.Step.{does_move, EndingsStand, plain-initial_items}
 
@@ -190,10 +190,59 @@ pub one_stage_a_step : Runs.OneStageAStep
 one_stage_a_step core w n t =
     subst (λ (s : State.State). by_status progress (at s.things t) ≤ by_status progress (at (state_after core w n).things t) + 1) (step_after core w n) ((does_move core (state_after core w n) (from_first core w n).stand).keeps.stages t)
 
+-- what is lost in a step
+module _ (s u : State.State) (l : Loses 1 None None s.places u.places) where
+  kept_by : (t : ℕ) → owning_places s t ≤ owning_places u t + count_by (λ v. t == v) l.losers
+  kept_by t = (let a = l.counts t in omega arith)
+
+  -- how often a thing is lost, where one is
+  lost_one : (o t : ℕ) → l.losers ≡ o ∷ [] → count_by (λ v. t == v) l.losers ≡ bit (t == o)
+  lost_one o t e = ap (count_by (λ v. t == v)) e ∙ (let a = count-cons (λ v. t == v) o [] in let z : count_by (λ v. t == v) [] ≡ 0 = refl in omega arith)
+
+  loses_thing : (losers : List ℕ) → l.losers ≡ losers → (t : ℕ) × Runs.LosesOneOwner t s u
+  loses_thing [] e = (0, record { one = (let a = none_lost 0 in omega arith); others = λ t other. none_lost t })
+    where
+      none_lost : (t : ℕ) → owning_places s t ≤ owning_places u t
+      none_lost t = (let a = kept_by t in let b : count_by (λ v. t == v) l.losers ≡ 0 = ap (count_by (λ v. t == v)) e in omega arith)
+  loses_thing (o ∷ []) e = (
+    o,
+    record {
+      one = (let a = kept_by o in let b = lost_one o o e in let c = bit_le (o == o) in omega arith);
+      others = λ t other. (let a = kept_by t in let b = lost_one o t e in let c = ap bit (ne_eqb t o other) in omega arith);
+    },
+  )
+  loses_thing (o ∷ p ∷ os) e = absurd (let a = l.few in let b = ap length e in omega arith)
+
+-- What one thing loses, one place owned.
+module _ (s u : State.State) (o : ℕ) (l : Runs.LosesOneOwner o s u) where
+  put_null : (n t : ℕ) → owning_places (put s n Null) t + bit (owns_in t (slice_get s.places n)) ≡ owning_places s t
+  put_null n t = count-put_null t s.places n Null refl
+
+  loses_place : (n : ℕ) → (0 < owning_places s o → IsTrue (owns_in o (slice_get s.places n))) → (t : ℕ) → owning_places (put s n Null) t ≤ owning_places u t
+  loses_place n h t =
+      elim (cases_eq t o) [
+        | inl same ↦ subst (λ v. owning_places (put s n Null) v ≤ owning_places u v) (sym same) (this (owning_places s o) refl)
+        | inr other ↦ (let a = put_null n t in let b = l.others t other in omega arith)
+      ]
+    where
+      this : (k : ℕ) → owning_places s o ≡ k → owning_places (put s n Null) o ≤ owning_places u o
+      this zero e = (let a = put_null n o in omega arith)
+      this (suc k) e = (let a = put_null n o in let b = l.one in let c = ap bit (h (omega arith)) in omega arith)
+
+  place_lost : (k : ℕ) → owning_places s o ≡ k → (n : ℕ) × ((t : ℕ) → owning_places (put s n Null) t ≤ owning_places u t)
+  place_lost zero e = (0, loses_place 0 (λ h. absurd (omega arith)))
+  place_lost (suc k) e = let f = own-found o s.places (own_some o s.places (omega arith)) in (f.0, loses_place f.0 (λ h. f.1))
+
+pub one_owner_is_lost : Runs.OneOwnerIsLost
+one_owner_is_lost core w n =
+    let s = state_after core w n in
+    subst (λ (u : State.State). (t : ℕ) × Runs.LosesOneOwner t s u) (step_after core w n) (
+    let l = (does_move core s (from_first core w n).stand).keeps.lost (tidy_after core w n) in loses_thing s (move (meaning core).machine s).0 l l.losers refl
+    )
+
 pub one_place_is_given_up : Runs.OnePlaceIsGivenUp
 one_place_is_given_up core w n =
-    let s = state_after core w n in
-    subst (λ (u : State.State). owners s ≤ owners u + 1) (step_after core w n) (let a = (does_move core s (from_first core w n).stand).keeps.lost (tidy_after core w n) in omega arith)
+    let l = one_owner_is_lost core w n in place_lost (state_after core w n) (state_after core w (suc n)) l.0 l.1 (owning_places (state_after core w n) l.0) refl
 
 live_there : (o : Option ThingState) → status_in o ≡ Live → (x : ThingState) × (o ≡ Some x) × (x.status ≡ Live)
 live_there None e = absurd (let bad : Gone ≡ Live = e in cc)

@@ -1,5 +1,5 @@
 -- What the laws on all runs speak of: what was made, what is ending and what is gone, and the ids that were given.
-use Rattle.std.specs.Prelude.{◌≡◌, ℕ, suc, ◌+◌, ◌≤◌, ◌<◌, ◌==◌, Bool, true, false, not, List, [], ◌∷◌, ◌++◌, length, map, count_by, All, Contains, Option, Some, None}
+use Rattle.std.specs.Prelude.{◌≡◌, ◌≢◌, ℕ, suc, ◌+◌, ◌≤◌, ◌<◌, ◌==◌, Bool, true, false, not, List, [], ◌∷◌, ◌++◌, length, map, count_by, All, Contains, Option, Some, None}
 use Rattle.vg_base.specs.declared.event.Event.{Event}
 use Rattle.vg_base.specs.declared.event.Event.TheVariants.{Made, Gone as Went, Dispatch}
 use Rattle.vg_base.specs.declared.event.ThingKind.{ThingKind}
@@ -8,11 +8,11 @@ use Rattle.vg_base.specs.Machine.{move, moves}
 use Rattle.vg_base.specs.World.{World}
 use Rattle.core_tree.specs.declared.program.Core.{Core}
 use Rattle.core_tree.specs.State
-use Rattle.core_tree.specs.State.{Status, Live, Ending, Gone, ThingState, Handler, Source, Parked, Item}
+use Rattle.core_tree.specs.State.{Null, Status, Live, Ending, Gone, ThingState, Handler, Source, Parked, Item}
 use Rattle.core_tree.specs.Owners.{kind_of, thing_at}
-use Rattle.core_tree.specs.Places.{is_live_now}
+use Rattle.core_tree.specs.Places.{is_live_now, put}
 use Rattle.core_tree.specs.Step.{meaning, opening, VRun}
-use Rattle.core_tree.specs.Tidy.{owning_places, owners, endings, is_tidy}
+use Rattle.core_tree.specs.Tidy.{owning_places, endings, is_tidy}
 
 -- the state after so many steps
 abbrev pub state_after : Core → World → ℕ → State.State
@@ -123,9 +123,19 @@ OwnedIsLive =
 abbrev pub OneEndingBegins : Type 0
 OneEndingBegins = (core : Core) (w : World) (n : ℕ) → past (state_after core w (suc n)).things ≤ past (state_after core w n).things + 1
 
--- at most one place is given up in a step: of the places that own something there are fewer by one at most
+-- From one state to another this thing has fewer owners by one at most, and no other thing has fewer.
+pub record LosesOneOwner (thing : ℕ) (s u : State.State) : Type 0 where
+  pub one : owning_places s thing ≤ owning_places u thing + 1
+  pub others : (t : ℕ) → t ≢ thing → owning_places s t ≤ owning_places u t
+
+-- in a step at most one thing has fewer owners than before, and it has one fewer
+abbrev pub OneOwnerIsLost : Type 0
+OneOwnerIsLost = (core : Core) (w : World) (n : ℕ) → (t : ℕ) × LosesOneOwner t (state_after core w n) (state_after core w (suc n))
+
+-- At most one place is given up in a step: there is a place without which each thing had no more owners before than it has after.
 abbrev pub OnePlaceIsGivenUp : Type 0
-OnePlaceIsGivenUp = (core : Core) (w : World) (n : ℕ) → owners (state_after core w n) ≤ owners (state_after core w (suc n)) + 1
+OnePlaceIsGivenUp =
+    (core : Core) (w : World) (n : ℕ) → (p : ℕ) × ((t : ℕ) → owning_places (put (state_after core w n) p Null) t ≤ owning_places (state_after core w (suc n)) t)
 
 -- Ids
 

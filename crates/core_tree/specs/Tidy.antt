@@ -1,23 +1,15 @@
 -- What holds of things and owners between any two steps.
-use Rattle.std.specs.Prelude.{ℕ, zero, suc, ◌+◌, ◌==◌, ◌&&◌, nat_le, Bool, true, is_some, List, [], ◌∷◌, count_by}
+use Rattle.std.specs.Prelude.{ℕ, zero, suc, ◌+◌, ◌==◌, ◌&&◌, nat_le, Bool, true, List, [], ◌∷◌, count_by}
 use Rattle.vg_base.specs.Machine.{move}
 use Rattle.core_tree.specs.declared.program.Core.{Core}
 use Rattle.core_tree.specs.State
-use Rattle.core_tree.specs.State.{Status, Live, Ending, Gone, Place, ThingState, Parked}
-use Rattle.core_tree.specs.Owners.{owns, owned_by, ends}
+use Rattle.core_tree.specs.State.{Status, Live, Ending, Gone, ThingState, Parked}
+use Rattle.core_tree.specs.Owners.{owns, ends}
 use Rattle.core_tree.specs.Step.{meaning}
 
 -- how many places own a thing
 abbrev pub owning_places : State.State → ℕ → ℕ
 owning_places s t = count_by (owns t) s.places
-
--- the place owns something
-abbrev pub owns_some : Place → Bool
-owns_some p = p.owning && is_some (owned_by p.holds)
-
--- how many places own something
-abbrev pub owners : State.State → ℕ
-owners s = count_by owns_some s.places
 
 -- how often its ending stands in the work of parked activations
 abbrev pub parked_endings : ℕ → List Parked → ℕ

@@ -2,7 +2,7 @@
 
 ghost use Rattle.std.specs.Prelude.{ℕ};
 ghost use Rattle.core_tree.specs.State.{State};
-ghost use Rattle.core_tree.specs.Runs.{DispatchesSourceThere, EndingsStandOnce, GoneOnce, IdsAreGivenOnce, IsAlwaysTidy, MadeBeforeGone, MakingsAreNumbered, OneEndingBegins, OnePlaceIsGivenUp, OneStageAStep, OwnedIsLive, ThingsGoOn};
+ghost use Rattle.core_tree.specs.Runs.{DispatchesSourceThere, EndingsStandOnce, GoneOnce, IdsAreGivenOnce, IsAlwaysTidy, MadeBeforeGone, MakingsAreNumbered, OneEndingBegins, OneOwnerIsLost, OnePlaceIsGivenUp, OneStageAStep, OwnedIsLive, ThingsGoOn};
 ghost use Rattle.core_tree.specs.Laws.{CallbacksOwnNothing, DispatchesReadySource, EmptiesOnePlace, LiteralsAreNoThings, NothingLivesAtFirst, RunsGoOn, ThingsAreNumbered};
 
 /// A trace only grows, an end stays, and nothing lives before the first step.
@@ -47,11 +47,14 @@ pub fn things_go_once()
     ensures one { OneEndingBegins }
 {}
 
-/// Between any two steps of every run a live thing has an owner, and one that is ending or gone has none; a step gives up one place at most.
+/// Between any two steps of every run a live thing has an owner, and one that is ending or gone has none.
+/// In a step at most one thing has fewer owners than before, and it has one fewer. So at most one place is given up: there is a place without which
+/// each thing had no more owners before the step than it has after. What moves from one place to another keeps its owners.
 pub fn live_things_are_owned()
     ensures tidy { IsAlwaysTidy }
     ensures live { OwnedIsLive }
-    ensures one { OnePlaceIsGivenUp }
+    ensures one { OneOwnerIsLost }
+    ensures place { OnePlaceIsGivenUp }
 {}
 
 /// In every run no id of a handler or source is given twice, and what is dispatched is a source that is there.

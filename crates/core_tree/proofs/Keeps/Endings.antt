@@ -11,7 +11,7 @@ use Rattle.core_tree.specs.Places.{fill, with_thing, next_serial, made, is_ownin
 use Rattle.core_tree.specs.Objects.{went}
 use Rattle.core_tree.specs.Runs.{is_going, progress, gone_now, ending_now, by_status}
 use Rattle.core_tree.proofs.Counts.{count-cons, at, kinds-with_status, by-with_same, by-with_other, past-with_status, further-with_status, ids_left, ids_same}
-use Rattle.core_tree.proofs.Owned.{weight_le, Takes, gains_put, carries_more, Own, own_none, own_some, IsLive, Tidy, Carries, carries_same, carries_fill}
+use Rattle.core_tree.proofs.Owned.{loses_same, loses_over, Takes, gains_put, carries_more, Own, own_none, own_some, IsLive, Tidy, Carries, carries_same, carries_fill}
 use Rattle.core_tree.proofs.Kept.{keeps_made, more, Passes, Keeps, Calm, calm_same, keeps_calm, keeps_then, ids_of, source_ids_of, parts, keeps_still}
 use Rattle.core_tree.proofs.Keeps.Ids.{left-without_target}
 use Rattle.core_tree.proofs.Moved.{owning-more}
@@ -82,7 +82,7 @@ settled over s f =
       sources = k.sources;
       dispatched = k.dispatched;
       tidy = f;
-      lost = λ g. (let a = weight_le over in omega arith);
+      lost = λ g. loses_over over s.places;
     }
 
 module _ (s : State.State) (t : ℕ) (x : ThingState) (e : at s.things t ≡ Some x) where
@@ -115,7 +115,7 @@ module _ (s : State.State) (t : ℕ) (x : ThingState) (e : at s.things t ≡ Som
         sources = ids_same s.last_source (source_ids_of s.sources);
         dispatched = refl;
         tidy = tidy_with (Some t) s.things s.places t Ending x e (λ bad. (let z : Ending ≡ Live = bad in cc)) none (λ v b. eqb-true v t b);
-        lost = λ g. omega arith;
+        lost = λ g. loses_over (Some t) s.places;
       }
 
   -- it is not live, so that it is not given up
@@ -209,7 +209,7 @@ keeps-went s t stage h =
       sources = ids_same s.last_source (source_ids_of s.sources);
       dispatched = refl;
       tidy = λ g. tidy_with None s.things s.places t Gone x e (λ bad. (let z : Gone ≡ Live = bad in cc)) (λ o. (let z : Ending ≡ Live = sym found.2 ∙ sym (ap status_in e) ∙ g.only t o in cc)) (λ v b. absurd (true≢false (sym b))) g;
-      lost = λ g. omega arith;
+      lost = λ g. loses_same s.places;
     }
 
 -- a thing is made in a place that owns, and what the place held is given up
