@@ -20,15 +20,10 @@
 #![tactic(auto)]
 
 mod code;
-mod copy_code;
-mod copy_member;
-mod copy_names;
 mod member;
 mod names;
 mod operators;
 mod spans;
-#[cfg(test)]
-mod tests;
 
 pub use code::{
     Argument, ArgumentMark, Block, Catch, Caught, Declarator, DeclaredType, Expr, For, ForStart,

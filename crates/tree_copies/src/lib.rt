@@ -1,0 +1,10 @@
+//! Copies of trees: a tree that is equal to another and shares nothing with it.
+#![tactic(auto)]
+
+mod code;
+mod member;
+mod names;
+#[cfg(test)]
+mod tests;
+
+pub use member::clone_in;
