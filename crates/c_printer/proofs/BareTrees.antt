@@ -1,5 +1,5 @@
 -- Trees without places, and what is written of them, one level after another.
-use Rattle.std.proofs.Common.{◌≡◌, ◌∙◌, cond, refl, sym, ap, subst, ℕ, Bool, true, false, ◌||◌, not, List, [], ◌∷◌, ◌++◌, map}
+use Rattle.std.proofs.Common.{◌≡◌, ◌∙◌, cond, refl, sym, ap, false, List, [], ◌∷◌, map}
 use Rattle.c_tree.specs.declared.names.Span.{Span}
 use Rattle.c_tree.specs.declared.operators.BinaryOperator.{BinaryOperator}
 use Rattle.c_tree.specs.declared.operators.Prefix.{Prefix}
@@ -12,8 +12,8 @@ use Rattle.c_tree.specs.declared.code.Suffix.{Suffix, out-Suffix}
 use Rattle.c_tree.specs.declared.code.Suffix.TheVariants as suffix
 use Rattle.c_tree.specs.declared.code.Choice.{Choice, out-Choice, roll-Choice}
 use Rattle.c_tree.specs.declared.code.Link.{Link, out-Link, roll-Link}
-use Rattle.c_tree.specs.declared.code.Shape.TheOpen.{Shape-F, Suffix-F, Choice-F, Expr-F, Link-F}
-use Rattle.c_tree.specs.declared.code.Shape.TheFolds.{fold-roll-Shape, fold-Expr, fold-Shape, fold-Suffix, fold-Choice, fold-Link, fold_out-Expr, fold_out-Shape, fold_out-Suffix, fold_out-Choice, fold_out-Link, map-Expr, map-Shape, map-Suffix, map-Choice, map-Link}
+use Rattle.c_tree.specs.declared.code.Shape.TheOpen.{Shape-F, Suffix-F, Expr-F}
+use Rattle.c_tree.specs.declared.code.Shape.TheFolds.{fold-roll-Shape, fold-Shape, fold-Suffix, fold-Choice, fold-Link, fold_out-Expr, fold_out-Shape, fold_out-Suffix, fold_out-Choice, fold_out-Link, map-Shape, map-Suffix}
 use Rattle.c_tree.specs.Make.{expr, span_of, shape_of, link, choice, bracketed, last_operand, suffix_span, last_suffix}
 use Rattle.c_tree.specs.Values.{is_place, is_place_layer, begins_with_deref, is_deref, is_dot_layer}
 use Rattle.c_tree.specs.Bare.{nowhere, bare_operator, bare_prefix, bare_shape, bare_suffix, bare_expr}
@@ -46,7 +46,7 @@ shape_at (Shape-F.Postfix a xs) = shape.Postfix a xs
 shape_at (Shape-F.Chain a ls) = shape.Chain a ls
 shape_at (Shape-F.Conditional cs e) = shape.Conditional cs e
 
-rolls_at : (l : Shape-F Shape Suffix Choice Expr Link) → roll-Shape l ≡ shape_at l
+pub rolls_at : (l : Shape-F Shape Suffix Choice Expr Link) → roll-Shape l ≡ shape_at l
 rolls_at (Shape-F.Number n) = shape.rolls-Number n
 rolls_at (Shape-F.Character b) = shape.rolls-Character b
 rolls_at (Shape-F.Text z) = shape.rolls-Text z

@@ -5,3 +5,16 @@ mod TypeReading
 mod Grades
 mod BareTrees
 mod ValueReading
+pub mod StatementReading
+mod ItemLemmas
+mod Lexing
+mod Moving
+mod MovingStatements
+mod Twice
+mod ItemReading
+mod WordLemmas
+mod CleanValues
+mod CleanReading
+mod CleanStatements
+mod CleanUnits
+mod UnitReading

@@ -1,6 +1,6 @@
 -- Marks that are put one after another.
 use Rattle.std.proofs.Math.Seq.{drop-cons}
-use Rattle.std.proofs.Common.{Result, Ok, Err, OnOk, ◌≡◌, ◌∙◌, refl, sym, ap, ℕ, zero, suc, ◌+◌, ◌<◌, length, get_or, drop, arith, List, [], ◌∷◌, ◌++◌, append_assoc}
+use Rattle.std.proofs.Common.{Result, Ok, Err, OnOk, ◌≡◌, ◌∙◌, refl, sym, ap, ℕ, zero, suc, ◌+◌, ◌<◌, length, get_or, drop, arith, List, [], ◌∷◌, ◌++◌}
 use Rattle.c_lexer.specs.declared.token.Sign.TheVariants as sign
 use Rattle.c_printer.specs.Text.{Text}
 use Rattle.c_printer.specs.Marks.{Mark, Marks, ASign, put_mark, put_marks}

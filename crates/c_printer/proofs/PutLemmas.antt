@@ -73,7 +73,7 @@ more_digits n d large s =
 decimal_says : (n : ℕ) → n < 2 ^ 64 → SaysDecimal n (decimal n)
 decimal_says n h = decimal_by_steps SaysDecimal one_digit more_digits n h
 
-number_token : (v : ℕ) (t : NumberType) → Holds t v → IsToken (spelled_number v t) (k.Number v t)
+pub number_token : (v : ℕ) (t : NumberType) → Holds t v → IsToken (spelled_number v t) (k.Number v t)
 number_token v Gint h = let s : SaysDecimal v (decimal v) = decimal_says v (omega arith) in
     subst (λ (x : ℕ). IsToken (spelled_number v Gint) (k.Number x Gint)) s.says (written.decimal (decimal v) suffix.Plain Gint s.digits (rw (s.says, lt-ltb v (2 ^ 31) h) refl))
 number_token v Guint h = let s : SaysDecimal v (decimal v) = decimal_says v (omega arith) in
@@ -151,11 +151,14 @@ no_zero b = cond_both (b == 39 || b == 92) _ _ P (λ _ e. differ (ap (λ x. get_
         (λ h e. let is : b ≡ 0 = ap (λ x. get_or x 0 0) e in let large : 32 ≤ b = leb-true 32 b (and_parts (nat_le 32 b) (nat_le b 126) (and_parts (nat_le 32 b && nat_le b 126) (not (b == 63 && 0 == 63)) h).0).0 in omega arith)
         (λ _ e. differ (ap (λ x. get_or x 0 0) e)) given
 
-character_token : (b : ℕ) → b < 256 → IsToken (spelled_character b) (k.Character b)
+pub character_token : (b : ℕ) → b < 256 → IsToken (spelled_character b) (k.Character b)
 character_token b h = written.character (spelled_byte 39 0 b) b (subst (λ x. Denotes 39 x (b ∷ [])) (append-nil (spelled_byte 39 0 b)) (byte_denotes 39 0 b [] [] refl h nothing)) (no_zero b)
 
 pub text_says : (z : List ℕ) → AreBytes z → text_value (spelled_text z) ≡ z
 text_says z h = text_denotes (spelled_bytes 34 0 z) z (bytes_denote 34 0 z refl h)
+
+pub text_token : (z : List ℕ) → AreBytes z → IsToken (spelled_text z) k.Text
+text_token z h = written.text (spelled_bytes 34 0 z) z (bytes_denote 34 0 z refl h)
 
 -- ---- all classes
 
@@ -164,6 +167,6 @@ put_token_is (piece.Name w) h = subst (IsToken w.now) h.1 (written.word w.now h.
 put_token_is (piece.Keyword word) h = keyword_token word
 put_token_is (piece.Constant name) h = constant_token name
 put_token_is (piece.Number v t) h = number_token v t h
-put_token_is (piece.Text z) h = written.text (spelled_bytes 34 0 z.now) z.now (bytes_denote 34 0 z.now refl h)
+put_token_is (piece.Text z) h = text_token z.now h
 put_token_is (piece.Character b) h = character_token b h
 put_token_is (piece.Sign sign) h = sign_token sign

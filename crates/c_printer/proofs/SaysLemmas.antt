@@ -24,7 +24,7 @@ both_false true b h = h
 both_false false b h = refl
 
 -- bytes that no token goes on with
-record Quiet (b : ℕ) : Type 0 where
+pub record Quiet (b : ℕ) : Type 0 where
   word : is_in class.Word b ≡ false
   number : is_in class.Number b ≡ false
   text : (b == 34) ≡ false
@@ -56,14 +56,14 @@ no_join x b q = rw (no_two x b q, q.dot, q.digit, q.slash, q.star, both_false (x
 quiet_sign : (w : List ℕ) (b : ℕ) → Quiet b → sign_goes_on w b ≡ false
 quiet_sign w b q = cond_both (length w == 1) _ _ (λ t. t ≡ false) (λ _. no_join (get_or w 0 0) b q) (λ _. cond_both (length w == 2) _ _ (λ t. t ≡ false) (λ _. ap is_some (no_three (get_or w 0 0) (get_or w 1 0) b q)) (λ _. refl))
 
-quiet : (w : List ℕ) (b : ℕ) → Quiet b → needs_space w b ≡ false
+pub quiet : (w : List ℕ) (b : ℕ) → Quiet b → needs_space w b ≡ false
 quiet w b q = cond_both (is_letter (get_or w 0 0)) _ _ (λ t. t ≡ false) (λ _. rw (q.word, q.text, q.character) refl)
     (λ _. cond_both (begins_number w) _ _ (λ t. t ≡ false) (λ _. q.number) (λ _. cond_both (get_or w 0 0 == 34 || get_or w 0 0 == 39) _ _ (λ t. t ≡ false) (λ _. refl) (λ _. quiet_sign w b q)))
 
-quiet_zero : Quiet 0
+pub quiet_zero : Quiet 0
 quiet_zero = record { word = refl; number = refl; text = refl; character = refl; equals = refl; greater = refl; dot = refl; slash = refl; star = refl; digit = refl; doubled = refl }
 
-quiet_space : (b : ℕ) → is_space b ≡ true → Quiet b
+pub quiet_space : (b : ℕ) → is_space b ≡ true → Quiet b
 quiet_space b h = go (b == 32) (b == 9) (b == 10) (b == 12) (b == 13) refl refl refl refl refl h
   where
     at : (x : ℕ) → (b == x) ≡ true → Quiet x → Quiet b
@@ -77,7 +77,7 @@ quiet_space b h = go (b == 32) (b == 9) (b == 10) (b == 12) (b == 13) refl refl 
     go false false false false true a c d e f h = at 13 f (record { word = refl; number = refl; text = refl; character = refl; equals = refl; greater = refl; dot = refl; slash = refl; star = refl; digit = refl; doubled = refl })
     go false false false false false a c d e f h = absurd cc
 
-white_first : (b : ℕ) (w : List ℕ) → run class.Space (b ∷ w) ≡ suc (length w) → is_space b ≡ true
+pub white_first : (b : ℕ) (w : List ℕ) → run class.Space (b ∷ w) ≡ suc (length w) → is_space b ≡ true
 white_first b w h = go (is_space b) h
   where
     go : (t : Bool) → cond t (suc (run class.Space w)) 0 ≡ suc (length w) → t ≡ true
@@ -93,14 +93,14 @@ less_suc m n = go (nat_lt m n) refl
     go true e = let small : m < n = ltb-true m n e in lt-ltb (suc m) (suc n) (omega arith)
     go false e = let large : n ≤ m = ltb-false m n e in le-ltb (suc m) (suc n) (omega arith)
 
-line_feed : (b : ℕ) (w : List ℕ) → has_line_feed (b ∷ w) ≡ (b == 10 || has_line_feed w)
+pub line_feed : (b : ℕ) (w : List ℕ) → has_line_feed (b ∷ w) ≡ (b == 10 || has_line_feed w)
 line_feed b w = go (b == 10)
   where
     go : (t : Bool) → nat_lt (cond (not t) (suc (run class.NotLineFeed w)) 0) (suc (length w)) ≡ (t || has_line_feed w)
     go true = lt-ltb 0 (suc (length w)) (omega arith)
     go false = less_suc (run class.NotLineFeed w) (length w)
 
-line_feeds : (u v : List ℕ) → has_line_feed (u ++ v) ≡ (has_line_feed u || has_line_feed v)
+pub line_feeds : (u v : List ℕ) → has_line_feed (u ++ v) ≡ (has_line_feed u || has_line_feed v)
 line_feeds [] v = refl
 line_feeds (b ∷ u) v = line_feed b (u ++ v) ∙ ap (λ t. b == 10 || t) (line_feeds u v) ∙ or_twice (b == 10) (has_line_feed u) (has_line_feed v) ∙ ap (λ t. t || has_line_feed v) (sym (line_feed b u))
   where
@@ -112,7 +112,7 @@ or_twice : (a b c : Bool) → ((a || b) || c) ≡ (a || (b || c))
 or_twice true b c = refl
 or_twice false b c = refl
 
-or_false : (a : Bool) → (a || false) ≡ a
+pub or_false : (a : Bool) → (a || false) ≡ a
 or_false true = refl
 or_false false = refl
 

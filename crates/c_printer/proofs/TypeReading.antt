@@ -1,8 +1,5 @@
 -- Types that are written are read.
-use Rattle.std.proofs.Common.{◌≡◌, ◌∙◌, refl, sym, ap, subst, ℕ, zero, suc, Bool, true, false, ◌||◌, List, [], ◌∷◌, ◌++◌, append_assoc, append-nil}
-use Rattle.c_lexer.specs.declared.token.TokenKind.TheVariants as k
-use Rattle.c_lexer.specs.declared.token.Keyword.TheVariants as keyword
-use Rattle.c_lexer.specs.declared.token.Sign.TheVariants as sign
+use Rattle.std.proofs.Common.{◌≡◌, ◌∙◌, refl, sym, ap, subst, ℕ, zero, suc, Bool, true, false, ◌||◌, [], ◌∷◌, ◌++◌, append_assoc}
 use Rattle.c_tree.specs.declared.names.Base.{Base}
 use Rattle.c_tree.specs.declared.names.Base.TheVariants as base
 use Rattle.c_tree.specs.declared.names.CType.{CType}
@@ -10,7 +7,7 @@ use Rattle.c_tree.specs.Words.{Token, Word, start_of, end_of, extent}
 use Rattle.c_tree.specs.Names.{Names}
 use Rattle.c_tree.specs.Types.{Consts, no_const, more_const, Stars, no_star, more_stars, BaseIs, void_is, int_is, char_is, named_is, ReadsType, type_is, is_object}
 use Rattle.c_tree.specs.Bare.{bare_base, bare_type, nowhere}
-use Rattle.c_printer.specs.Marks.{Mark, Marks, Name, AKeyword, AConstant, Number, Chars, Character, ASign, Space, Line, mark_word, word}
+use Rattle.c_printer.specs.Marks.{Marks, Name, AKeyword, AConstant, Number, Chars, Character, ASign, Space, Line, mark_word, word}
 use Rattle.c_printer.specs.PutValues.{const_marks, base_marks, stars, star_marks, type_marks}
 
 pub word_append : (a b : Marks) → word (a ++ b) ≡ word a ++ word b

@@ -1,5 +1,5 @@
 -- Values that are written are read.
-use Rattle.std.proofs.Common.{◌≡◌, ◌∙◌, refl, sym, ap, subst, ℕ, Bool, true, false, cond, not, ◌&&◌, ◌||◌, nat_le, List, [], ◌∷◌, ◌++◌, map, append_assoc, append-nil, Option, Some, None}
+use Rattle.std.proofs.Common.{◌≡◌, ◌∙◌, refl, sym, ap, subst, Bool, true, false, not, ◌&&◌, ◌||◌, List, [], ◌∷◌, ◌++◌, map, append_assoc, append-nil, Option, Some, None}
 use Rattle.std.proofs.lemmas.Bool.{cond_both}
 use Rattle.c_lexer.specs.declared.token.TokenKind.TheVariants as k
 use Rattle.c_lexer.specs.declared.token.Keyword.TheVariants as keyword
@@ -26,7 +26,7 @@ use Rattle.c_tree.specs.declared.code.Link.{Link}
 use Rattle.c_tree.specs.Words.{Word, join}
 use Rattle.c_tree.specs.Kinds.{level_of}
 use Rattle.c_tree.specs.Names.{Names}
-use Rattle.c_tree.specs.Make.{expr, shape_of, span_of, link, choice, chained, prefixed, suffixed, conditional, bracketed, last_operand, last_suffix}
+use Rattle.c_tree.specs.Make.{expr, shape_of, span_of, link, choice, chained, prefixed, suffixed, conditional, bracketed, last_operand}
 use Rattle.c_tree.specs.Types.{ReadsType, is_object}
 use Rattle.c_tree.specs.Values as v
 use Rattle.c_tree.specs.Values.{binary_of, prefix_of, is_place, is_dot_layer, may_precede, may_follow}
@@ -381,3 +381,19 @@ module _ (ns : Names) (constant : Bool) where
   pub value_read : {w : Word} {e : Expr} → v.Reads ns constant v.Value w e → v.Reads ns constant v.Value (word (value_marks e)) (bare_expr e)
   unfolding Claim
   value_read {e} r = at Anywhere e (reading r)
+
+  pub operand_read : (l : Level) (e : Expr) {w : Word} → v.Reads ns constant (v.Operand l) w e → v.Reads ns constant (v.Operand l) (word (placed (Operand l) (printed e))) (bare_expr e)
+  unfolding Claim
+  operand_read l e r = at (Operand l) e (reading r)
+
+  pub callee_read : (e : Expr) {w : Word} → v.Reads ns constant v.Postfixed w e → v.Reads ns constant v.Postfixed (word (placed BehindPrefix (printed e))) (bare_expr e)
+  unfolding Claim
+  callee_read e r = at BehindPrefix e (reading r)
+
+  pub arguments_read : (es : List Expr) {w : Word} → v.Reads ns constant v.Arguments w es → v.Reads ns constant v.Arguments (word (arguments_marks es)) (map bare_expr es)
+  unfolding Claim ArgumentsRead
+  arguments_read es r = reading r
+
+  pub more_read : (es : List Expr) {w : Word} → v.Reads ns constant v.MoreArguments w es → v.Reads ns constant v.MoreArguments (word (more_arguments_marks es)) (map bare_expr es)
+  unfolding Claim MoreRead
+  more_read es r = reading r

@@ -1,5 +1,5 @@
 -- Where values need brackets.
-use Rattle.std.specs.Prelude.{ℕ, suc, ◌&&◌, ◌||◌, not, nat_le, nat_lt, Bool, true, false}
+use Rattle.std.specs.Prelude.{ℕ, ◌&&◌, ◌||◌, not, nat_le, nat_lt, Bool, true, false}
 use Rattle.c_tree.specs.declared.operators.Level.{Level}
 use Rattle.c_tree.specs.declared.operators.Level.TheVariants as level
 use Rattle.c_printer.specs.declared.grade.Grade.{Grade}

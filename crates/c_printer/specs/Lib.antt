@@ -3,4 +3,9 @@ pub mod Text
 pub mod Marks
 pub mod Grades
 pub mod PutValues
+pub mod Printed
+pub mod Alike
 pub mod Laws
+pub mod PutStatements
+pub mod PutItems
+pub mod Writable

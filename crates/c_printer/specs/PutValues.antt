@@ -1,5 +1,5 @@
 -- How types and values are written.
-use Rattle.std.specs.Prelude.{ℕ, zero, suc, ◌+◌, ◌==◌, ◌&&◌, not, nat_le, Bool, true, false, if◌then◌else◌, List, [], ◌∷◌, ◌++◌, map, codes}
+use Rattle.std.specs.Prelude.{ℕ, zero, suc, Bool, true, false, if◌then◌else◌, List, [], ◌∷◌, ◌++◌}
 use Rattle.c_lexer.specs.declared.token.Keyword.TheVariants as keyword
 use Rattle.c_lexer.specs.declared.token.Sign.{Sign}
 use Rattle.c_lexer.specs.declared.token.Sign.TheVariants as sign
@@ -27,7 +27,7 @@ use Rattle.c_printer.specs.declared.grade.Grade.TheVariants.{Choosing, Chaining,
 use Rattle.c_printer.specs.declared.grade.Place.{Place}
 use Rattle.c_printer.specs.declared.grade.Place.TheVariants.{Anywhere, Chosen, Operand, BehindPrefix, BeforeSuffix}
 use Rattle.c_printer.specs.Grades.{stands}
-use Rattle.c_printer.specs.Marks.{Mark, Marks, Name, AKeyword, AConstant, Number, Chars, Character, ASign, Space, in_row}
+use Rattle.c_printer.specs.Marks.{Marks, Name, AKeyword, AConstant, Number, Chars, Character, ASign, Space, in_row}
 
 -- 1. Types
 
@@ -205,10 +205,14 @@ printed_link = fold-Link Printed Marks Marks Printed PrintedLink print_shape pri
 abbrev pub value_marks : Expr → Marks
 value_marks e = placed Anywhere (printed e)
 
+-- a value behind another
+abbrev pub next_argument_marks : Expr → Marks
+next_argument_marks a = ASign sign.Comma ∷ Space ∷ value_marks a
+
 -- values behind one another, with commas
 abbrev pub more_arguments_marks : List Expr → Marks
 more_arguments_marks [] = []
-more_arguments_marks (a ∷ es) = ASign sign.Comma ∷ Space ∷ value_marks a ++ more_arguments_marks es
+more_arguments_marks (a ∷ es) = next_argument_marks a ++ more_arguments_marks es
 
 abbrev pub arguments_marks : List Expr → Marks
 arguments_marks [] = []

@@ -6,9 +6,11 @@ ghost use Rattle.c_lexer.specs.Texts.{text_value};
 ghost use Rattle.c_lexer.specs.Tokens.{Lexeme, Tokens, all_of};
 ghost use Rattle.c_lexer.specs.Written.{IsToken};
 ghost use Rattle.c_printer.specs.declared.piece.Piece.{Piece};
-ghost use Rattle.c_printer.specs.Laws.{TypesAreRead, ValuesAreRead};
+ghost use Rattle.c_printer.specs.Laws.{BlocksAreRead, BlocksMove, TokensAreRead, TypesAreRead, ValuesAreRead};
 ghost use Rattle.c_printer.specs.Put.{AreBytes, CanBePut, kind_of, spelled, spelled_text};
 ghost use Rattle.c_printer.specs.Text.{Says, Text, with_token};
+
+use c_lexer::tokens_cover;
 
 /// What is put is a token of its class, and says what was put: a number its value and type, a character its byte, a text its bytes.
 pub fn pieces_read_back()
@@ -26,4 +28,21 @@ pub fn what_is_written_is_read()
 pub fn types_and_values_are_read()
     ensures types { TypesAreRead }
     ensures values { ValuesAreRead }
+{}
+
+/// And so are the declarations and statements of a block that has a reading.
+pub fn blocks_are_read()
+    ensures { BlocksAreRead }
+{}
+
+/// The bytes of a list of tokens and white space that can be written have those tokens, at their places.
+pub fn tokens_are_read()
+    ensures { TokensAreRead }
+{
+    tokens_cover();
+}
+
+/// The same tokens at other places are read as the same tree, apart from places.
+pub fn places_do_not_matter()
+    ensures { BlocksMove }
 {}

@@ -1,24 +1,40 @@
 // The text of C that is written.
 #![tactic(auto)]
 
+mod calls;
+mod functions;
 mod grade;
+mod group;
+mod includes;
+mod items;
 mod laws;
+mod layouts;
 mod output;
 mod piece;
 mod spelling;
+mod statements;
 #[cfg(test)]
 mod tests;
 mod token;
 mod types;
+mod unit;
+#[cfg(test)]
+mod unit_tests;
 #[cfg(test)]
 mod value_tests;
 mod values;
 mod writer;
 
 pub use grade::Place;
-pub use laws::{pieces_read_back, types_and_values_are_read, what_is_written_is_read};
+pub use items::put_unit;
+pub use laws::{
+    blocks_are_read, pieces_read_back, places_do_not_matter, tokens_are_read,
+    types_and_values_are_read, what_is_written_is_read,
+};
 pub use output::Writer;
 pub use piece::Piece;
+pub use statements::put_block;
 pub use token::put_token;
 pub use types::put_type;
+pub use unit::print;
 pub use values::put_value;

@@ -261,8 +261,8 @@ fn put_links(alloc: Global, out: &mut Writer, links: &[Link]) -> Result<(), Memo
     Ok(())
 }
 
-// A sign between two spaces.
-fn put_sign(alloc: Global, out: &mut Writer, sign: Sign) -> Result<(), Memory>
+/// Writes a sign between two spaces.
+pub fn put_sign(alloc: Global, out: &mut Writer, sign: Sign) -> Result<(), Memory>
     ensures { OnOk result (Wrote out.old (spec.spaced sign) out.new) }
 {
     out.space()?;

@@ -1,0 +1,277 @@
+-- Units that are written are read.
+use Rattle.std.proofs.Common.{◌≡◌, ◌∙◌, refl, sym, ap, ap₂, subst, ℕ, zero, suc, Bool, true, false, cond, not, ◌&&◌, ◌||◌, nat_le, List, [], ◌∷◌, ◌++◌, map, length, codes, append_assoc, Option, Some, None, arith}
+use Rattle.std.proofs.lemmas.Bool.{and_parts}
+use Rattle.c_lexer.specs.declared.token.TokenKind.TheVariants as k
+use Rattle.c_lexer.specs.Written.{IsWord}
+use Rattle.c_lexer.specs.Words.{word_kind}
+use Rattle.c_tree.specs.declared.unit.Include.{Include}
+use Rattle.c_tree.specs.declared.unit.Include.TheVariants as include
+use Rattle.c_tree.specs.declared.unit.Item.{Item}
+use Rattle.c_tree.specs.declared.unit.Item.TheVariants as item
+use Rattle.c_tree.specs.Words.{Token, Word, plain, words, words_behind, Other, BeginsLine, Open, with_terminal, is_shallow}
+use Rattle.c_tree.specs.Names.{Names, with_item, library_names}
+use Rattle.c_tree.specs.Items as it
+use Rattle.c_tree.specs.Items.{ReadsItem, ReadsItems, no_item, more_items, is_include, ends_line}
+use Rattle.c_tree.specs.Bare.{bare_item, bare}
+use Rattle.c_tree.specs.declared.unit.Unit.{Unit as CUnit}
+use Rattle.c_lexer.specs.Tokens.{Tokens, all_of}
+use Rattle.c_printer.specs.declared.group.Group.{Group}
+use Rattle.c_printer.specs.Alike.{Alike, none, one}
+use Rattle.c_printer.specs.Marks.{Mark, Marks, Name, AKeyword, AConstant, Number, Chars, Character, ASign, Space, Line, word, put_marks}
+use Rattle.c_printer.specs.Printed.{IsInner, AreInner, IsFile, IsWritableItem, AreWritableItems, CanBePrinted, IsTextOf}
+use Rattle.c_printer.specs.Laws.{TokensAreRead}
+use Rattle.c_printer.specs.Put.{AreBytes}
+use Rattle.c_printer.specs.PutItems.{include_marks, item_marks, group_of, is_close, between_items, items_marks, unit_marks}
+use Rattle.c_printer.specs.Text.{Text, empty}
+use Rattle.c_printer.specs.Writable.{IsWritable, AreWritable, lexemes}
+use Rattle.c_printer.proofs.CleanUnits.{sound_alike}
+use Rattle.c_printer.proofs.TypeReading.{word_append}
+use Rattle.c_printer.proofs.ItemReading.{is_code, item_here, item_scope_bare, include_bare}
+use Rattle.c_printer.proofs.WordLemmas.{flag, inner_words, inner_alike, begins, include_words, AllFileBytes, file_bytes, byte_small}
+
+-- 1. The lines between items
+
+between_line : (o p : Group) (t : Text) (f : Bool) (ms : Marks) → lexemes t f (between_items (Some o) p ++ ms) ≡ lexemes (put_marks t (between_items (Some o) p)) true ms
+between_line o p t f ms = go (is_close o p)
+  where
+    go : (b : Bool) → lexemes t f (cond b (Line 0 ∷ []) (Line 0 ∷ Line 0 ∷ []) ++ ms) ≡ lexemes (put_marks t (cond b (Line 0 ∷ []) (Line 0 ∷ Line 0 ∷ []))) true ms
+    go true = refl
+    go false = refl
+
+-- what is written behind an item
+abbrev rest_marks : Group → List Item → Marks
+rest_marks g is = items_marks (Some g) is ++ Line 0 ∷ []
+
+parted : (g : Group) (i : Item) (is : List Item) → rest_marks g (i ∷ is) ≡ between_items (Some g) (group_of i) ++ (item_marks i ++ rest_marks (group_of i) is)
+parted g i is = append_assoc (between_items (Some g) (group_of i) ++ item_marks i) (items_marks (Some (group_of i)) is) (Line 0 ∷ []) ∙ append_assoc (between_items (Some g) (group_of i)) (item_marks i) (rest_marks (group_of i) is)
+
+rest_lexemes : (g : Group) (i : Item) (is : List Item) (t : Text) (f : Bool) → lexemes t f (rest_marks g (i ∷ is)) ≡ lexemes (put_marks t (between_items (Some g) (group_of i))) true (item_marks i ++ rest_marks (group_of i) is)
+rest_lexemes g i is t f = ap (lexemes t f) (parted g i is) ∙ between_line g (group_of i) t f (item_marks i ++ rest_marks (group_of i) is)
+
+rest_begins : (g : Group) (is : List Item) (t : Text) (f : Bool) → BeginsLine (words_behind Other (lexemes t f (rest_marks g is))) ≡ true
+rest_begins g [] t f = refl
+rest_begins g (i ∷ is) t f = ap (λ ls. BeginsLine (words_behind Other ls)) (rest_lexemes g i is t f) ∙ begins (put_marks t (between_items (Some g) (group_of i))) (item_marks i ++ rest_marks (group_of i) is)
+
+-- 2. Items
+
+-- words that are read as items, apart from places
+pub record Whole (ns : Names) (w : Word) (is : List Item) : Type 0 where
+  pub tree : List Item
+  pub reads : ReadsItems ns w tree
+  pub same : map bare_item tree ≡ map bare_item is
+
+-- the words of an item and of what stands behind it
+abbrev item_words : Text → Item → Marks → Word
+item_words t i ms = words_behind Other (lexemes t true (item_marks i ++ ms))
+
+code_step : (ns : Names) (t : Text) (i : Item) (ms : Marks) (is : List Item) {w : Word} → ReadsItem ns w i → is_code i ≡ true → AreInner (item_marks i) → ((f : Bool) → Whole (with_item ns i) (words_behind Other (lexemes (put_marks t (item_marks i)) f ms)) is) → Whole ns (item_words t i ms) (i ∷ is)
+code_step ns t i ms is r h inner more =
+    let m = item_here r h (inner_alike t true (item_marks i) inner) in
+    let q = more (flag true (item_marks i)) in
+    subst (λ w. Whole ns w (i ∷ is)) (sym (inner_words t true (item_marks i) inner ms))
+    (record {
+      tree = m.tree ∷ q.tree;
+      reads = more_items m.reads (ap (λ b. not b || BeginsLine (words_behind Other (lexemes (put_marks t (item_marks i)) (flag true (item_marks i)) ms))) (sym (include_bare m.tree) ∙ ap is_include m.same ∙ include_bare i)
+          ∙ ap (λ b. b || BeginsLine (words_behind Other (lexemes (put_marks t (item_marks i)) (flag true (item_marks i)) ms))) h)
+          (subst (λ s. ReadsItems s (words_behind Other (lexemes (put_marks t (item_marks i)) (flag true (item_marks i)) ms)) q.tree) (sym (sym (item_scope_bare ns m.tree) ∙ ap (with_item ns) m.same ∙ item_scope_bare ns i)) q.reads);
+      same = λ k. m.same k ∷ q.same k;
+    })
+
+step : (ns : Names) (t : Text) (i : Item) (ms : Marks) (is : List Item) {w : Word} → ReadsItem ns w i → IsWritableItem i → ((s : Text) (f : Bool) → BeginsLine (words_behind Other (lexemes s f ms)) ≡ true)
+    → ((f : Bool) → Whole (with_item ns i) (words_behind Other (lexemes (put_marks t (item_marks i)) f ms)) is) → Whole ns (item_words t i ms) (i ∷ is)
+step ns t (item.Include f) ms is r h line more =
+    let m = include_words t f h ms in let q = more false in
+    subst (λ w. Whole ns w (item.Include f ∷ is)) (sym m.words)
+    (record { tree = item.Include f ∷ q.tree; reads = more_items (it.includes m.is_hash m.first m.is_include m.behind m.is_file) (line (put_marks t (include_marks f)) false) q.reads; same = λ k. item.Include f ∷ q.same k })
+step ns t (item.StructType x) ms is r h line more = code_step ns t (item.StructType x) ms is r refl h more
+step ns t (item.Struct x) ms is r h line more = code_step ns t (item.Struct x) ms is r refl h more
+step ns t (item.Enumeration x) ms is r h line more = code_step ns t (item.Enumeration x) ms is r refl h more
+step ns t (item.FunctionType x) ms is r h line more = code_step ns t (item.FunctionType x) ms is r refl h more
+step ns t (item.Prototype x) ms is r h line more = code_step ns t (item.Prototype x) ms is r refl h more
+step ns t (item.Variable x) ms is r h line more = code_step ns t (item.Variable x) ms is r refl h more
+step ns t (item.InterfaceTable x) ms is r h line more = code_step ns t (item.InterfaceTable x) ms is r refl h more
+step ns t (item.Function x) ms is r h line more = code_step ns t (item.Function x) ms is r refl h more
+
+items_read : (g : Group) (is : List Item) (t : Text) (f : Bool) (ns : Names) {w : Word} → ReadsItems ns w is → AreWritableItems is → Whole ns (words_behind Other (lexemes t f (rest_marks g is))) is
+items_read g [] t f ns no_item h = record { tree = []; reads = no_item; same = refl }
+items_read g (i ∷ is) t f ns (more_items r e rest) h = subst (λ ls. Whole ns (words_behind Other ls) (i ∷ is)) (sym (rest_lexemes g i is t f))
+    (step ns (put_marks t (between_items (Some g) (group_of i))) i (rest_marks (group_of i) is) is r h.0 (rest_begins (group_of i) is)
+    (λ b. items_read (group_of i) is (put_marks (put_marks t (between_items (Some g) (group_of i))) (item_marks i)) b (with_item ns i) rest h.1))
+
+-- the first item stands at the beginning of the text
+first_lexemes : (i : Item) (is : List Item) → items_marks None (i ∷ is) ++ Line 0 ∷ [] ≡ item_marks i ++ rest_marks (group_of i) is
+first_lexemes i is = append_assoc (item_marks i) (items_marks (Some (group_of i)) is) (Line 0 ∷ [])
+
+pub all_items_read : (is : List Item) (ns : Names) {w : Word} → ReadsItems ns w is → AreWritableItems is → Whole ns (words (lexemes empty true (items_marks None is ++ Line 0 ∷ []))) is
+all_items_read [] ns no_item h = record { tree = []; reads = no_item; same = refl }
+all_items_read (i ∷ is) ns (more_items r e rest) h = subst (λ ms. Whole ns (words (lexemes empty true ms)) (i ∷ is)) (sym (first_lexemes i is))
+    (step ns empty i (rest_marks (group_of i) is) is r h.0 (rest_begins (group_of i) is) (λ b. items_read (group_of i) is (put_marks empty (item_marks i)) b (with_item ns i) rest h.1))
+
+-- 3. Brackets
+
+-- what is open behind tokens
+opens : Open → Word → Open
+opens o [] = o
+opens o (t ∷ w) = opens (with_terminal o t.terminal) w
+
+and_assoc : (a b c : Bool) → (a && (b && c)) ≡ ((a && b) && c)
+and_assoc true b c = refl
+and_assoc false b c = refl
+
+shallow_append : (o : Open) (u v : Word) → is_shallow o (u ++ v) ≡ (is_shallow o u && is_shallow (opens o u) v)
+unfolding opens
+shallow_append o [] v = refl
+shallow_append o (t ∷ u) v = ap (λ b. nat_le (length (with_terminal o t.terminal)) 64 && b) (shallow_append (with_terminal o t.terminal) u v) ∙ and_assoc (nat_le (length (with_terminal o t.terminal)) 64) (is_shallow (with_terminal o t.terminal) u) (is_shallow (opens (with_terminal o t.terminal) u) v)
+
+alike_shallow : (o : Open) {u v : Word} → Alike u v → (is_shallow o v ≡ is_shallow o u) × (opens o v ≡ opens o u)
+unfolding opens
+alike_shallow o none = (refl, refl)
+alike_shallow o (one {s} {t} {v} {w} l a) =
+    let q = alike_shallow (with_terminal o s.terminal) a in
+    ((ap (λ x. nat_le (length (with_terminal o x)) 64 && is_shallow (with_terminal o x) w) l.terminal ∙ ap (λ b. nat_le (length (with_terminal o s.terminal)) 64 && b) q.0), ap (λ x. opens (with_terminal o x) w) l.terminal ∙ q.1)
+
+-- so many times one test, and then another
+times : ℕ → Bool → Bool → Bool
+times zero a b = b
+times (suc n) a b = a && times n a b
+
+times_true : (n : ℕ) (a b : Bool) → times (suc n) a b ≡ true → (a ≡ true) × (b ≡ true)
+unfolding times
+times_true zero a b h = and_parts a b h
+times_true (suc n) a b h = let p = and_parts a (times (suc n) a b) h in times_true n a b p.1
+
+three_quiet : (o : Open) (a b c : Token) (w : Word) → with_terminal o a.terminal ≡ o → with_terminal o b.terminal ≡ o → with_terminal o c.terminal ≡ o → nat_le (length o) 64 ≡ true → is_shallow o w ≡ true → is_shallow o (a ∷ b ∷ c ∷ w) ≡ true
+three_quiet o a b c w p q r h s =
+    ap (λ x. nat_le (length x) 64 && is_shallow x (b ∷ c ∷ w)) p ∙ ap (λ x. nat_le (length o) 64 && (nat_le (length x) 64 && is_shallow x (c ∷ w))) q ∙ ap (λ x. nat_le (length o) 64 && (nat_le (length o) 64 && (nat_le (length x) 64 && is_shallow x w))) r
+    ∙ ap₂ (λ x y. x && (x && (x && y))) h s
+
+include_nests : (o : Open) (f : Include) (ms : Marks) → is_shallow o (word (include_marks f ++ ms)) ≡ true → (nat_le (length o) 64 ≡ true) × (is_shallow o (word ms) ≡ true)
+unfolding times
+include_nests o include.Glib ms h = times_true 6 (nat_le (length o) 64) (is_shallow o (word ms)) h
+include_nests o include.GlibObject ms h = times_true 8 (nat_le (length o) 64) (is_shallow o (word ms)) h
+include_nests o include.Gio ms h = times_true 8 (nat_le (length o) 64) (is_shallow o (word ms)) h
+include_nests o include.String ms h = times_true 6 (nat_le (length o) 64) (is_shallow o (word ms)) h
+include_nests o include.Stdlib ms h = times_true 6 (nat_le (length o) 64) (is_shallow o (word ms)) h
+include_nests o (include.Own x) ms h = times_true 2 (nat_le (length o) 64) (is_shallow o (word ms)) h
+
+code_nests : (t : Text) (i : Item) (ms : Marks) → AreInner (item_marks i) → ((f : Bool) (o : Open) → is_shallow o (word ms) ≡ true → is_shallow o (words_behind Other (lexemes (put_marks t (item_marks i)) f ms)) ≡ true)
+    → (o : Open) → is_shallow o (word (item_marks i ++ ms)) ≡ true → is_shallow o (item_words t i ms) ≡ true
+code_nests t i ms inner more o h =
+    let a = alike_shallow o (inner_alike t true (item_marks i) inner) in
+    let p = and_parts (is_shallow o (word (item_marks i))) (is_shallow (opens o (word (item_marks i))) (word ms)) (sym (shallow_append o (word (item_marks i)) (word ms)) ∙ ap (is_shallow o) (sym (word_append (item_marks i) ms)) ∙ h) in
+    ap (is_shallow o) (inner_words t true (item_marks i) inner ms)
+    ∙ shallow_append o (map plain (lexemes t true (item_marks i))) (words_behind Other (lexemes (put_marks t (item_marks i)) (flag true (item_marks i)) ms))
+    ∙ ap₂ (λ x y. x && is_shallow y (words_behind Other (lexemes (put_marks t (item_marks i)) (flag true (item_marks i)) ms))) (a.0 ∙ p.0) a.1
+    ∙ more (flag true (item_marks i)) (opens o (word (item_marks i))) p.1
+
+item_nests : (t : Text) (i : Item) (ms : Marks) → IsWritableItem i → ((f : Bool) (o : Open) → is_shallow o (word ms) ≡ true → is_shallow o (words_behind Other (lexemes (put_marks t (item_marks i)) f ms)) ≡ true)
+    → (o : Open) → is_shallow o (word (item_marks i ++ ms)) ≡ true → is_shallow o (item_words t i ms) ≡ true
+item_nests t (item.Include f) ms h more o e =
+    let m = include_words t f h ms in let p = include_nests o f ms e in
+    ap (is_shallow o) m.words ∙ three_quiet o m.hash m.word m.file (words_behind Other (lexemes (put_marks t (include_marks f)) false ms)) (ap (with_terminal o) m.is_hash) (ap (with_terminal o) m.is_include.0) (ap (with_terminal o) m.is_file) p.0 (more false o p.1)
+item_nests t (item.StructType x) ms h more o e = code_nests t (item.StructType x) ms h more o e
+item_nests t (item.Struct x) ms h more o e = code_nests t (item.Struct x) ms h more o e
+item_nests t (item.Enumeration x) ms h more o e = code_nests t (item.Enumeration x) ms h more o e
+item_nests t (item.FunctionType x) ms h more o e = code_nests t (item.FunctionType x) ms h more o e
+item_nests t (item.Prototype x) ms h more o e = code_nests t (item.Prototype x) ms h more o e
+item_nests t (item.Variable x) ms h more o e = code_nests t (item.Variable x) ms h more o e
+item_nests t (item.InterfaceTable x) ms h more o e = code_nests t (item.InterfaceTable x) ms h more o e
+item_nests t (item.Function x) ms h more o e = code_nests t (item.Function x) ms h more o e
+
+between_word : (g p : Group) (ms : Marks) → word (between_items (Some g) p ++ ms) ≡ word ms
+between_word g p ms = go (is_close g p)
+  where
+    go : (b : Bool) → word (cond b (Line 0 ∷ []) (Line 0 ∷ Line 0 ∷ []) ++ ms) ≡ word ms
+    go true = refl
+    go false = refl
+
+items_nest : (g : Group) (is : List Item) (t : Text) (f : Bool) → AreWritableItems is → (o : Open) → is_shallow o (word (rest_marks g is)) ≡ true → is_shallow o (words_behind Other (lexemes t f (rest_marks g is))) ≡ true
+items_nest g [] t f h o e = refl
+items_nest g (i ∷ is) t f h o e = ap (λ ls. is_shallow o (words_behind Other ls)) (rest_lexemes g i is t f)
+    ∙ item_nests (put_marks t (between_items (Some g) (group_of i))) i (rest_marks (group_of i) is) h.0 (λ b. items_nest (group_of i) is (put_marks (put_marks t (between_items (Some g) (group_of i))) (item_marks i)) b h.1) o
+    (sym (ap (is_shallow o) (ap word (parted g i is) ∙ between_word g (group_of i) (item_marks i ++ rest_marks (group_of i) is))) ∙ e)
+
+pub all_items_nest : (is : List Item) → AreWritableItems is → (o : Open) → is_shallow o (word (items_marks None is ++ Line 0 ∷ [])) ≡ true → is_shallow o (words (lexemes empty true (items_marks None is ++ Line 0 ∷ []))) ≡ true
+all_items_nest [] h o e = refl
+all_items_nest (i ∷ is) h o e = ap (λ ms. is_shallow o (words (lexemes empty true ms))) (first_lexemes i is)
+    ∙ item_nests empty i (rest_marks (group_of i) is) h.0 (λ b. items_nest (group_of i) is (put_marks empty (item_marks i)) b h.1) o (sym (ap (λ ms. is_shallow o (word ms)) (first_lexemes i is)) ∙ e)
+
+-- 4. What can be written
+
+writable_mark : (m : Mark) → IsInner m → IsWritable m
+writable_mark (Name w) h = h
+writable_mark (AKeyword w) h = tt
+writable_mark (AConstant c) h = tt
+writable_mark (Number n y) h = h
+writable_mark (Chars z) h = h
+writable_mark (Character b) h = h
+writable_mark (ASign s) h = tt
+writable_mark Space h = tt
+writable_mark (Line n) h = tt
+
+inner_writable : (ms : Marks) → AreInner ms → AreWritable ms
+inner_writable [] h = tt
+inner_writable (m ∷ ms) h = (writable_mark m h.0, inner_writable ms h.1)
+
+writable_append : (a b : Marks) → AreWritable a → AreWritable b → AreWritable (a ++ b)
+writable_append [] b h i = i
+writable_append (m ∷ a) b h i = (h.0, writable_append a b h.1 i)
+
+bytes_small : (z : List ℕ) → AllFileBytes z → AreBytes z
+bytes_small [] h = tt
+bytes_small (b ∷ z) h = (byte_small b h.0, bytes_small z h.1)
+
+include_word : IsWord (codes "include") × (word_kind (codes "include") ≡ k.Identifier)
+include_word = (record { some = omega arith; letter = refl; all = refl }, refl)
+
+include_writable : (f : Include) → IsFile f → AreWritable (include_marks f)
+include_writable include.Glib h = (tt, (include_word, (tt, (tt, ((record { some = omega arith; letter = refl; all = refl }, refl), (tt, ((record { some = omega arith; letter = refl; all = refl }, refl), (tt, tt))))))))
+include_writable include.GlibObject h = (tt, (include_word, (tt, (tt, ((record { some = omega arith; letter = refl; all = refl }, refl), (tt, ((record { some = omega arith; letter = refl; all = refl }, refl), (tt, ((record { some = omega arith; letter = refl; all = refl }, refl), (tt, tt))))))))))
+include_writable include.Gio h = (tt, (include_word, (tt, (tt, ((record { some = omega arith; letter = refl; all = refl }, refl), (tt, ((record { some = omega arith; letter = refl; all = refl }, refl), (tt, ((record { some = omega arith; letter = refl; all = refl }, refl), (tt, tt))))))))))
+include_writable include.String h = (tt, (include_word, (tt, (tt, ((record { some = omega arith; letter = refl; all = refl }, refl), (tt, ((record { some = omega arith; letter = refl; all = refl }, refl), (tt, tt))))))))
+include_writable include.Stdlib h = (tt, (include_word, (tt, (tt, ((record { some = omega arith; letter = refl; all = refl }, refl), (tt, ((record { some = omega arith; letter = refl; all = refl }, refl), (tt, tt))))))))
+include_writable (include.Own x) h = (tt, (include_word, (tt, (bytes_small (x ++ codes ".h") (file_bytes x h), tt))))
+
+item_writable : (i : Item) → IsWritableItem i → AreWritable (item_marks i)
+item_writable (item.Include f) h = include_writable f h
+item_writable (item.StructType x) h = inner_writable (item_marks (item.StructType x)) h
+item_writable (item.Struct x) h = inner_writable (item_marks (item.Struct x)) h
+item_writable (item.Enumeration x) h = inner_writable (item_marks (item.Enumeration x)) h
+item_writable (item.FunctionType x) h = inner_writable (item_marks (item.FunctionType x)) h
+item_writable (item.Prototype x) h = inner_writable (item_marks (item.Prototype x)) h
+item_writable (item.Variable x) h = inner_writable (item_marks (item.Variable x)) h
+item_writable (item.InterfaceTable x) h = inner_writable (item_marks (item.InterfaceTable x)) h
+item_writable (item.Function x) h = inner_writable (item_marks (item.Function x)) h
+
+between_writable : (o : Option Group) (p : Group) → AreWritable (between_items o p)
+between_writable None p = tt
+between_writable (Some g) p = go (is_close g p)
+  where
+    go : (b : Bool) → AreWritable (cond b (Line 0 ∷ []) (Line 0 ∷ Line 0 ∷ []))
+    go true = (tt, tt)
+    go false = (tt, (tt, tt))
+
+pub items_writable : (o : Option Group) (is : List Item) → AreWritableItems is → AreWritable (items_marks o is)
+items_writable o [] h = tt
+items_writable o (i ∷ is) h = writable_append (between_items o (group_of i) ++ item_marks i) (items_marks (Some (group_of i)) is) (writable_append (between_items o (group_of i)) (item_marks i) (between_writable o (group_of i)) (item_writable i h.0)) (items_writable (Some (group_of i)) is h.1)
+
+pub unit_writable : (is : List Item) → AreWritableItems is → AreWritable (items_marks None is ++ Line 0 ∷ [])
+unit_writable is h = writable_append (items_marks None is) (Line 0 ∷ []) (items_writable None is h) (tt, tt)
+
+-- 5. Whole texts
+
+pub text_read : TokensAreRead → (u : CUnit) (bytes : List ℕ) → bytes ≡ (put_marks empty (unit_marks u)).bytes → CanBePrinted u → IsTextOf u bytes
+text_read lexed u bytes e h =
+    let m = all_items_read u.items library_names h.reads h.writable in
+    let read : CUnit = record { items = m.tree } in
+    let same : bare read ≡ bare u = λ i. record { items = m.same i } in
+    record {
+      read = read;
+      reads = record {
+        tokens = lexemes empty true (unit_marks u);
+        lexed = subst (λ z. Tokens (all_of z) (lexemes empty true (unit_marks u)) None) (sym e) (lexed (unit_marks u) (unit_writable u.items h.writable));
+        reads = record { items = m.reads; shallow = all_items_nest u.items h.writable [] h.nests };
+        sound = sound_alike u read h.reads m.reads same h.sound;
+      };
+      same = same;
+    }
