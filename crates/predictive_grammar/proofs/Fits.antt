@@ -2,8 +2,8 @@
 -- are computed.
 use Rattle.std.proofs.Common.{◌≡◌, ℕ, Bool, true, false, not, ◌&&◌, ◌||◌, if◌then◌else◌, nat_lt, refl, sym, ap, subst, ◌∙◌, inl, inr, true≢false, ltb-true}
 use Rattle.predictive_grammar.specs.Forms.{Signature, Form, give, take, part, pick, bar, Productions}
-use Rattle.predictive_grammar.specs.Fit.{Within, Tables, Falls, Opens, opens_take, opens_part, opens_first, opens_second, opens_bar, Fit, gives, takes, reads, reads_none, picks, bars}
-use Rattle.predictive_grammar.proofs.Sets.{Finite, and_first, and_second, or_left, or_right, is_within, is_apart, within, apart}
+use Rattle.predictive_grammar.specs.Fit.{Within, Apart, Tables, Falls, Opens, opens_take, opens_part, opens_first, opens_second, opens_bar, Fit, gives, takes, reads, reads_none, picks, bars}
+use Rattle.predictive_grammar.proofs.Sets.{Checks, and_first, and_second, or_left, or_right, implies, implied, not_true, Inside, Disjoint, within, apart}
 
 -- the trees that a form has without tokens: none, this one, or any
 pub data Nones (A : Type 0) : Type 0 where
@@ -17,14 +17,14 @@ Among (only a) x = x ≡ a
 Among maybe x = Unit {0}
 
 -- the property holds of each of them
-abbrev pub Each : {A : Type 0} → Nones A → (A → Bool) → Type 0
+abbrev pub Each : {A : Type 0} → Nones A → (A → Type 0) → Type 0
 Each never p = Unit {0}
-Each (only a) p = p a ≡ true
-Each {A = A} maybe p = (x : A) → p x ≡ true
+Each (only a) p = p a
+Each {A = A} maybe p = (x : A) → p x
 
-pub each_at : {A : Type 0} (z : Nones A) (p : A → Bool) → Each z p → (x : A) → Among z x → p x ≡ true
+pub each_at : {A : Type 0} (z : Nones A) (p : A → Type 0) → Each z p → (x : A) → Among z x → p x
 each_at never p e x i = absurd i
-each_at (only a) p e x i = ap p i ∙ e
+each_at (only a) p e x i = subst p (sym i) e
 each_at maybe p e x i = e x
 
 abbrev pub nothing : {K : Type 0} → K → Bool
@@ -49,19 +49,21 @@ joined never z = never
 joined (only a) z = z a
 joined _ z = maybe
 
--- A grammar with its tables, all kinds, a token of each, and the trees of the texts without tokens once more.
+-- A grammar with its tables, a check of sets of kinds, some kinds and a token of each, and the trees of the texts without tokens once more.
 pub record Tabled : Type 1 where
   pub signature : Signature
   pub forms : Productions signature
   pub tables : Tables signature
-  pub finite : Finite signature.Kind
-  pub sample : signature.Kind → signature.Token
-  pub is_sample : (x : signature.Kind) → signature.kind (sample x) ≡ x
+  pub checks : Checks signature.Kind
+  pub Sample : Type 0
+  pub shape : Sample → signature.Kind
+  pub sample : Sample → signature.Token
+  pub is_sample : (x : Sample) → signature.kind (sample x) ≡ shape x
   pub nones : (p : signature.Part) → Nones (signature.Tree p)
   pub means : (p : signature.Part) (a : signature.Tree p) → tables.none p a → Among (nones p) a
 
 module _ (g : Tabled) where
-  open g use {signature, forms, tables, finite}
+  open g use {signature, forms, tables, checks}
 
   pub record Fits (r : signature.Part) (moved : Bool) (f : signature.Kind → Bool) (z : Nones (signature.Tree r)) (form : Form signature r) : Type 1 where
     pub fit : Fit signature tables r moved f (Among z) form
@@ -72,7 +74,7 @@ module _ (g : Tabled) where
   opened (take up items test k) x = test x
   opened (part up q k) x = tables.opens q x
   opened (pick test a b) x = if test x then opened a x else opened b x
-  opened (bar left k) x = not (left x) && opened k x
+  opened (bar left e k) x = not (left x) && opened k x
 
   pub opens_from : {r : signature.Part} (form : Form signature r) (x : signature.Kind) → opened form x ≡ true → Opens signature tables r x form
   opens_from (give a) x e = absurd (true≢false (sym e))
@@ -84,15 +86,15 @@ module _ (g : Tabled) where
           → Opens signature tables r x (pick test a b)
       go true t e f g = opens_first t (f e)
       go false t e f g = opens_second t (g e)
-  opens_from {r = r} (bar left k) x e = opens_bar (go (left x) (opened k x) e) (opens_from k x (and_second (not (left x)) (opened k x) e))
+  opens_from {r = r} (bar left label k) x e = opens_bar (go (left x) (opened k x) e) (opens_from k x (and_second (not (left x)) (opened k x) e))
     where
       go : (c d : Bool) → (not c && d) ≡ true → c ≡ false
       go true d e = absurd (true≢false (sym e))
       go false d e = refl
 
   -- a part opens as the tables say
-  pub opens_as : (p : signature.Part) → is_within finite (tables.opens p) (opened (forms p)) ≡ true → (x : signature.Kind) → tables.opens p x ≡ true → Opens signature tables p x (forms p)
-  opens_as p e x i = opens_from (forms p) x (within finite (tables.opens p) (opened (forms p)) e x i)
+  pub opens_as : (p : signature.Part) → Inside checks (tables.opens p) (opened (forms p)) → (x : signature.Kind) → tables.opens p x ≡ true → Opens signature tables p x (forms p)
+  opens_as p e x i = opens_from (forms p) x (within checks (tables.opens p) (opened (forms p)) e x i)
 
   abbrev pub falls : Bool → signature.Part → signature.Part → Bool
   falls moved r q = if moved then true else nat_lt (tables.rank q) (tables.rank r)
@@ -102,16 +104,22 @@ module _ (g : Tabled) where
   falls_is false r q e = inr (ltb-true (tables.rank q) (tables.rank r) e)
 
   -- in front of what the tree stops at, the part ends
-  abbrev pub ends_at : (r q : signature.Part) → signature.Tree q → signature.Tree r → Bool
-  ends_at r q b a = is_within finite (tables.stop r a) (tables.stop q b)
+  abbrev pub ends_at : (r q : signature.Part) → signature.Tree q → signature.Tree r → Type 0
+  ends_at r q b a = Inside checks (tables.stop r a) (tables.stop q b)
 
   -- the first way opens with what passes the test, and the second begins with nothing that does
-  abbrev pub divides : {r : signature.Part} → (f h test : signature.Kind → Bool) → Form signature r → Bool
-  divides f h test a = is_within finite f test && (is_within finite test (opened a) && is_apart finite h test)
+  abbrev pub opens_alone : {r : signature.Part} → (h test : signature.Kind → Bool) → Form signature r → signature.Kind → Bool
+  opens_alone h test a x = implies (test x) (opened a x) && implies (h x) (not (test x))
+
+  abbrev pub divided : {r : signature.Part} → (f h test : signature.Kind → Bool) → Form signature r → signature.Kind → Bool
+  divided f h test a x = implies (f x) (test x) && opens_alone h test a x
+
+  abbrev pub divides : {r : signature.Part} → (f h test : signature.Kind → Bool) → Form signature r → Type 0
+  divides f h test a = checks.Holds (divided f h test a)
 
   -- what ends where it is empty, ends in front of none of these
-  abbrev pub avoids : (r : signature.Part) → (signature.Kind → Bool) → signature.Tree r → Bool
-  avoids r test x = is_apart finite (tables.stop r x) test
+  abbrev pub avoids : (r : signature.Part) → (signature.Kind → Bool) → signature.Tree r → Type 0
+  avoids r test x = Disjoint checks (tables.stop r x) test
 
   -- what fits, fits with more kinds to begin with and more trees without tokens
   fit_more : {r : signature.Part} {moved : Bool} {f h : signature.Kind → Bool} {z y : signature.Tree r → Type 0} {form : Form signature r} → Fit signature tables r moved f z form → Within f h
@@ -124,22 +132,27 @@ module _ (g : Tabled) where
   fit_more (bars f z x a i j stops some) w m = bars f z x a (λ x e. w x (i x e)) (λ x e. w x (j x e)) stops (λ x e. m x (some x e))
 
   -- more kinds to begin with, and more trees without tokens
-  pub widen : {r : signature.Part} {moved : Bool} {f h : signature.Kind → Bool} {z y : Nones (signature.Tree r)} {form : Form signature r} → Fits r moved f z form → is_within finite f h ≡ true
+  pub widen : {r : signature.Part} {moved : Bool} {f h : signature.Kind → Bool} {z y : Nones (signature.Tree r)} {form : Form signature r} → Fits r moved f z form → Inside checks f h
       → ((a : signature.Tree r) → Among z a → Among y a) → Fits r moved h y form
-  widen {f = f} {h = h} x e more = record { fit = fit_more x.fit (within finite f h e) more }
+  widen {f = f} {h = h} x e more = record { fit = fit_more x.fit (within checks f h e) more }
+
+  -- the same, by proof
+  pub widen_by : {r : signature.Part} {moved : Bool} {f h : signature.Kind → Bool} {z y : Nones (signature.Tree r)} {form : Form signature r} → Fits r moved f z form → Within f h
+      → ((a : signature.Tree r) → Among z a → Among y a) → Fits r moved h y form
+  widen_by x w more = record { fit = fit_more x.fit w more }
 
   -- a form fits the tables of its part
-  pub fit_part : (p : signature.Part) {f : signature.Kind → Bool} {z : Nones (signature.Tree p)} {form : Form signature p} → Fits p false f z form → is_within finite f (tables.first p) ≡ true
+  pub fit_part : (p : signature.Part) {f : signature.Kind → Bool} {z : Nones (signature.Tree p)} {form : Form signature p} → Fits p false f z form → Inside checks f (tables.first p)
       → ((a : signature.Tree p) → Among z a → tables.none p a) → Fit signature tables p false (tables.first p) (tables.none p) form
-  fit_part p {f = f} {z = z} x e n = fit_more x.fit (within finite f (tables.first p) e) n
+  fit_part p {f = f} {z = z} x e n = fit_more x.fit (within checks f (tables.first p) e) n
 
   module _ (r q : signature.Part) (moved : Bool) (up : ℕ → ℕ) (k : signature.Tree q → Form signature r) (f : signature.Tree q → signature.Kind → Bool) (z : signature.Tree q → Nones (signature.Tree r))
-      (fall : falls moved r q ≡ true) (st : (b : signature.Tree q) → is_within finite (f b) (tables.stop q b) ≡ true) (stops : (b : signature.Tree q) → Each (z b) (ends_at r q b)) where
+      (fall : falls moved r q ≡ true) (st : (b : signature.Tree q) → Inside checks (f b) (tables.stop q b)) (stops : (b : signature.Tree q) → Each (z b) (ends_at r q b)) where
     ended : (b : signature.Tree q) → Within (f b) (tables.stop q b)
-    ended b = within finite (f b) (tables.stop q b) (st b)
+    ended b = within checks (f b) (tables.stop q b) (st b)
 
     stopped : (b : signature.Tree q) (a : signature.Tree r) → Among (z b) a → Within (tables.stop r a) (tables.stop q b)
-    stopped b a i = within finite (tables.stop r a) (tables.stop q b) (each_at (z b) (ends_at r q b) (stops b) a i)
+    stopped b a i = within checks (tables.stop r a) (tables.stop q b) (each_at (z b) (ends_at r q b) (stops b) a i)
 
     -- the part's empty texts have one of these trees
     pub text_by : (n : Nones (signature.Tree q)) → ((b : signature.Tree q) → tables.none q b → Among n b) → ((b : signature.Tree q) → Fits r (behind n moved) (f b) (z b) (k b))
@@ -154,7 +167,7 @@ module _ (g : Tabled) where
     }
 
 module _ {g : Tabled} where
-  open g use {signature, forms, tables, finite, sample, is_sample, nones, means}
+  open g use {signature, forms, tables, checks, Sample, shape, sample, is_sample, nones, means}
 
   -- nothing more
   pub done : {r : signature.Part} {moved : Bool} (a : signature.Tree r) → Fits g r moved nothing (only a) (give a)
@@ -162,12 +175,12 @@ module _ {g : Tabled} where
 
   -- a token, of which some kind passes the test
   pub token : {r : signature.Part} {moved : Bool} {up : ℕ → ℕ} {items : ℕ} {test : signature.Kind → Bool} {k : signature.Token → Form signature r} {f : signature.Token → signature.Kind → Bool}
-      {z : signature.Token → Nones (signature.Tree r)} (x : signature.Kind) → test x ≡ true → ((t : signature.Token) → Fits g r true (f t) (z t) (k t)) → Fits g r moved test never (take up items test k)
+      {z : signature.Token → Nones (signature.Tree r)} (x : Sample) → test (shape x) ≡ true → ((t : signature.Token) → Fits g r true (f t) (z t) (k t)) → Fits g r moved test never (take up items test k)
   token {test = test} {f = f} {z = z} x e rest = record { fit = takes (sample x) (ap test (is_sample x) ∙ e) (λ x i. i) f (λ t. Among (z t)) (λ t i. (rest t).fit) }
 
   -- the same, where the rest fits only behind such a token
   pub token_of : {r : signature.Part} {moved : Bool} {up : ℕ → ℕ} {items : ℕ} {test : signature.Kind → Bool} {k : signature.Token → Form signature r} {f : signature.Token → signature.Kind → Bool}
-      {z : signature.Token → Nones (signature.Tree r)} (x : signature.Kind) → test x ≡ true → ((t : signature.Token) → test (signature.kind t) ≡ true → Fits g r true (f t) (z t) (k t))
+      {z : signature.Token → Nones (signature.Tree r)} (x : Sample) → test (shape x) ≡ true → ((t : signature.Token) → test (signature.kind t) ≡ true → Fits g r true (f t) (z t) (k t))
       → Fits g r moved test never (take up items test k)
   token_of {test = test} {f = f} {z = z} x e rest = record { fit = takes (sample x) (ap test (is_sample x) ∙ e) (λ x i. i) f (λ t. Among (z t)) (λ t i. (rest t i).fit) }
 
@@ -175,24 +188,39 @@ module _ {g : Tabled} where
   -- what the whole ends in front of where the rest is empty.
   pub text : {r : signature.Part} {moved : Bool} {up : ℕ → ℕ} {q : signature.Part} {k : signature.Tree q → Form signature r} {f : signature.Tree q → signature.Kind → Bool} {z : signature.Tree q → Nones (signature.Tree r)}
       → falls g moved r q ≡ true → ((b : signature.Tree q) → Fits g r (behind (nones q) moved) (f b) (z b) (k b))
-      → ((b : signature.Tree q) → is_within finite (f b) (tables.stop q b) ≡ true) → ((b : signature.Tree q) → Each (z b) (ends_at g r q b))
+      → ((b : signature.Tree q) → Inside checks (f b) (tables.stop q b)) → ((b : signature.Tree q) → Each (z b) (ends_at g r q b))
       → Fits g r moved (either (tables.first q) (begun (nones q) f)) (joined (nones q) z) (part up q k)
   text {r = r} {moved = moved} {up = up} {q = q} {k = k} {f = f} {z = z} fall rest st stops = text_by g r q moved up k f z fall st stops (nones q) (means q) rest
 
   pub choice : {r : signature.Part} {moved : Bool} {test f h : signature.Kind → Bool} {a b : Form signature r} {z : Nones (signature.Tree r)} → Fits g r moved f never a → Fits g r moved h z b
-      → divides g f h test a ≡ true → Each z (avoids g r test) → Fits g r moved (either f h) z (pick test a b)
+      → divides g f h test a → Each z (avoids g r test) → Fits g r moved (either f h) z (pick test a b)
   choice {r = r} {test = test} {f = f} {h = h} {a = a} {b = b} {z = z} x y e stops = record {
-    fit =
-        let e2 = and_second (is_within finite f test) (is_within finite test (opened g a) && is_apart finite h test) e in
-        picks f h (Among z) x.fit (within finite f test (and_first (is_within finite f test) (is_within finite test (opened g a) && is_apart finite h test) e)) (λ x i. or_left (f x) (h x) i)
-        (λ x i. opens_from g a x (within finite test (opened g a) (and_first (is_within finite test (opened g a)) (is_apart finite h test) e2) x i))
-        y.fit (apart finite h test (and_second (is_within finite test (opened g a)) (is_apart finite h test) e2)) (λ x i. or_right (f x) (h x) i)
-        (λ x i. apart finite (tables.stop r x) test (each_at z (avoids g r test) stops x i)) (λ x i. i);
+    fit = picks f h (Among z) x.fit (λ x i. implied (f x) (test x) (and_first (implies (f x) (test x)) (opens_alone g h test a x) (at x)) i) (λ x i. or_left (f x) (h x) i)
+        (λ x i. opens_from g a x (implied (test x) (opened g a x) (and_first (implies (test x) (opened g a x)) (implies (h x) (not (test x))) (behind_first x)) i))
+        y.fit (λ x i. not_true (test x) (implied (h x) (not (test x)) (and_second (implies (test x) (opened g a x)) (implies (h x) (not (test x))) (behind_first x)) i)) (λ x i. or_right (f x) (h x) i)
+        (λ x i. apart checks (tables.stop r x) test (each_at z (avoids g r test) stops x i)) (λ x i. i);
+  }
+    where
+      at : (x : signature.Kind) → divided g f h test a x ≡ true
+      at x = checks.sound (divided g f h test a) e x
+
+      behind_first : (x : signature.Kind) → opens_alone g h test a x ≡ true
+      behind_first x = and_second (implies (f x) (test x)) (opens_alone g h test a x) (at x)
+
+  -- the way of a token, or the other
+  pub where_token : {r : signature.Part} {moved : Bool} {up : ℕ → ℕ} {items : ℕ} {test h : signature.Kind → Bool} {k : signature.Token → Form signature r} {b : Form signature r}
+      {f : signature.Token → signature.Kind → Bool} {y : signature.Token → Nones (signature.Tree r)} {z : Nones (signature.Tree r)} (x : Sample) → test (shape x) ≡ true
+      → ((t : signature.Token) → Fits g r true (f t) (y t) (k t)) → Fits g r moved h z b → Disjoint checks h test → Each z (avoids g r test)
+      → Fits g r moved (either test h) z (pick test (take up items test k) b)
+  where_token {r = r} {test = test} {h = h} {f = f} {y = y} {z = z} x e rest other e2 stops = record {
+    fit = picks test h (Among z) (takes (sample x) (ap test (is_sample x) ∙ e) (λ x i. i) f (λ t. Among (y t)) (λ t i. (rest t).fit)) (λ x i. i) (λ x i. or_left (test x) (h x) i) (λ x i. opens_take i)
+        other.fit (apart checks h test e2) (λ x i. or_right (test x) (h x) i) (λ x i. apart checks (tables.stop r x) test (each_at z (avoids g r test) stops x i)) (λ x i. i);
   }
 
-  pub barred : {r : signature.Part} {moved : Bool} {left f : signature.Kind → Bool} {k : Form signature r} {z : Nones (signature.Tree r)} → Fits g r moved f z k → is_apart finite f left ≡ true
-      → Each z (avoids g r left) → Fits g r moved (either f left) z (bar left k)
-  barred {r = r} {left = left} {f = f} {z = z} x e stops = record {
-    fit = bars f (Among z) x.fit (apart finite f left e) (λ x i. or_left (f x) (left x) i) (λ x i. or_right (f x) (left x) i)
-        (λ x i. apart finite (tables.stop r x) left (each_at z (avoids g r left) stops x i)) (λ x i. i);
-  }
+  pub barred_by : {r : signature.Part} {moved : Bool} {left f : signature.Kind → Bool} {label : signature.Label} {k : Form signature r} {z : Nones (signature.Tree r)} → Fits g r moved f z k → Apart f left
+      → ((x : signature.Tree r) → Among z x → Apart (tables.stop r x) left) → Fits g r moved (either f left) z (bar left label k)
+  barred_by {left = left} {f = f} {z = z} x e stops = record { fit = bars f (Among z) x.fit e (λ x i. or_left (f x) (left x) i) (λ x i. or_right (f x) (left x) i) stops (λ x i. i) }
+
+  pub barred : {r : signature.Part} {moved : Bool} {left f : signature.Kind → Bool} {label : signature.Label} {k : Form signature r} {z : Nones (signature.Tree r)} → Fits g r moved f z k → Disjoint checks f left
+      → Each z (avoids g r left) → Fits g r moved (either f left) z (bar left label k)
+  barred {r = r} {left = left} {f = f} {z = z} x e stops = barred_by x (apart checks f left e) (λ x i. apart checks (tables.stop r x) left (each_at z (avoids g r left) stops x i))

@@ -39,7 +39,7 @@ module _ (G : Signature) where
     pub value : A
     pub begins : R (word ++ missing) value
 
-  module _ {A : Type 0} (narrow wide : Word G → A → Type 0) (limits : Limits) (again : Parser G.Token A) where
+  module _ {A : Type 0} (narrow : Word G → A → Type 0) (wide : G.Label → Word G → A → Type 0) (limits : Limits) (again : Parser G.Label G.Token A) where
     -- the word is a text, and it is read whatever comes behind that begins alike
     pub record Took (w : Word G) (a : A) (m : List G.Token) : Type 0 where
       pub text : narrow w a
@@ -50,14 +50,14 @@ module _ (G : Signature) where
       pub can : Completes narrow w
       pub holds : (n : List G.Token) → Alike true m n → again (raw w ++ n) ≡ Err (Syntax, n)
 
-    -- the same, in front of a token that goes on with it in the wide grammar
-    pub record Barred (w : Word G) (m : List G.Token) : Type 0 where
+    -- the same, in front of a token that goes on with it in the grammar widened by what the label names
+    pub record Barred (e : G.Label) (w : Word G) (m : List G.Token) : Type 0 where
       pub can : Completes narrow w
       pub letter : Letter G.Token
       pub behind : List G.Token
       pub begin : m ≡ letter.token ∷ behind
-      pub goes : Completes wide (w ++ letter ∷ [])
-      pub holds : (n : List G.Token) → Alike false m n → again (raw w ++ n) ≡ Err (LeftOut, n)
+      pub goes : Completes (wide e) (w ++ letter ∷ [])
+      pub holds : (n : List G.Token) → Alike false m n → again (raw w ++ n) ≡ Err (LeftOut e, n)
 
     -- the next token goes on with the word, and is over a limit
     pub record Over (over : Letter G.Token → Type 0) (w : Word G) (m : List G.Token) : Type 0 where
@@ -79,17 +79,17 @@ module _ (G : Signature) where
     abbrev pub TooManyHere : Letter G.Token → Type 0
     TooManyHere x = (x.level < limits.levels) × (limits.items ≤ x.items)
 
-    abbrev pub Faulty : List G.Token → Fault → List G.Token → Type 0
+    abbrev pub Faulty : List G.Token → Fault G.Label → List G.Token → Type 0
     Faulty i Syntax m = Front i m (λ w. Refused w m)
-    Faulty i LeftOut m = Front i m (λ w. Barred w m)
+    Faulty i (LeftOut e) m = Front i m (λ w. Barred e w m)
     Faulty i Nesting m = Front i m (λ w. Over TooHighHere w m)
     Faulty i Number m = Front i m (λ w. Over TooManyHere w m)
 
-    abbrev pub Known : List G.Token → Outcome G.Token A → Type 0
+    abbrev pub Known : List G.Token → Outcome G.Label G.Token A → Type 0
     Known i (Ok x) = Front i x.1 (λ w. Took w x.0 x.1)
     Known i (Err s) = Faulty i s.0 s.1
 
-    pub record Good (i : List G.Token) (o : Outcome G.Token A) : Type 0 where
+    pub record Good (i : List G.Token) (o : Outcome G.Label G.Token A) : Type 0 where
       pub run : Known i o
 
   -- ---- behind a word that was read
@@ -97,8 +97,8 @@ module _ (G : Signature) where
   append_letter : (u w : Word G) (x : Letter G.Token) → u ++ (w ++ x ∷ []) ≡ (u ++ w) ++ x ∷ []
   append_letter u w x = sym (append_assoc u w (x ∷ []))
 
-  module _ {A : Type 0} (narrow wide narrow' wide' : Word G → A → Type 0) (limits : Limits) (again again' : Parser G.Token A) (u : Word G) (end : Bool) (i j : List G.Token)
-      (front : i ≡ raw u ++ j) (within : IsWithin limits u) (more : (v : Word G) (a : A) → narrow' v a → narrow (u ++ v) a) (widely : (v : Word G) (a : A) → wide' v a → wide (u ++ v) a)
+  module _ {A : Type 0} (narrow : Word G → A → Type 0) (wide : G.Label → Word G → A → Type 0) (narrow' : Word G → A → Type 0) (wide' : G.Label → Word G → A → Type 0) (limits : Limits) (again again' : Parser G.Label G.Token A) (u : Word G) (end : Bool) (i j : List G.Token)
+      (front : i ≡ raw u ++ j) (within : IsWithin limits u) (more : (v : Word G) (a : A) → narrow' v a → narrow (u ++ v) a) (widely : (e : G.Label) (v : Word G) (a : A) → wide' e v a → wide e (u ++ v) a)
       (same : (x : List G.Token) → Alike end j x → again (raw u ++ x) ≡ again' x) where
     completes : (R R' : Word G → A → Type 0) → ((v : Word G) (a : A) → R' v a → R (u ++ v) a) → (y : Word G) → Completes R' y → Completes R (u ++ y)
     completes R R' f y c = record { missing = c.missing; value = c.value; begins = subst (λ (w : Word G). R w c.value) (sym (append_assoc u y c.missing)) (f (y ++ c.missing) c.value c.begins) }
@@ -123,43 +123,43 @@ module _ (G : Signature) where
     alike_next : (w : Word G) (m n : List G.Token) → j ≡ raw w ++ m → Alike false m n → Alike end j (raw w ++ n)
     alike_next w m n e a = subst (λ (y : List G.Token). Alike end y (raw w ++ n)) (sym e) (alike_front w m n (alike_any a))
 
-    go_on : (w : Word G) (n : List G.Token) (o : Outcome G.Token A) → Alike end j (raw w ++ n) → again' (raw w ++ n) ≡ o → again (raw (u ++ w) ++ n) ≡ o
+    go_on : (w : Word G) (n : List G.Token) (o : Outcome G.Label G.Token A) → Alike end j (raw w ++ n) → again' (raw w ++ n) ≡ o → again (raw (u ++ w) ++ n) ≡ o
     go_on w n o a e = ap again (raw-then u w n) ∙ same (raw w ++ n) a ∙ e
 
     over_more : (over : Letter G.Token → Type 0) (w : Word G) (m : List G.Token) → Over narrow' wide' limits again' over w m → Over narrow wide limits again over (u ++ w) m
     over_more over w m h = record { letter = h.letter; behind = h.behind; begin = h.begin; excess = h.excess; goes = completes_letter narrow narrow' more w h.letter h.goes }
 
-    faulty : (s : Fault) (m : List G.Token) → (end ≡ true) ⊎ MovedTo j s m → Faulty narrow' wide' limits again' j s m → Faulty narrow wide limits again i s m
+    faulty : (s : Fault G.Label) (m : List G.Token) → (end ≡ true) ⊎ MovedTo j s m → Faulty narrow' wide' limits again' j s m → Faulty narrow wide limits again i s m
     faulty Syntax m moved t = front_more m (λ w. Refused narrow wide limits again w m) (λ w. Refused narrow' wide' limits again' w m) t (λ h. record {
       can = completes narrow narrow' more t.word h.can;
       holds = λ n a. go_on t.word n (Err (Syntax, n)) (alike_behind t.word m n t.front moved a) (h.holds n a);
     })
-    faulty LeftOut m moved t = front_more m (λ w. Barred narrow wide limits again w m) (λ w. Barred narrow' wide' limits again' w m) t (λ h. record {
+    faulty (LeftOut e) m moved t = front_more m (λ w. Barred narrow wide limits again e w m) (λ w. Barred narrow' wide' limits again' e w m) t (λ h. record {
       can = completes narrow narrow' more t.word h.can;
       letter = h.letter;
       behind = h.behind;
       begin = h.begin;
-      goes = completes_letter wide wide' widely t.word h.letter h.goes;
-      holds = λ n a. go_on t.word n (Err (LeftOut, n)) (alike_next t.word m n t.front a) (h.holds n a);
+      goes = completes_letter (wide e) (wide' e) (widely e) t.word h.letter h.goes;
+      holds = λ n a. go_on t.word n (Err (LeftOut e, n)) (alike_next t.word m n t.front a) (h.holds n a);
     })
     faulty Nesting m moved t = front_more m (λ w. Over narrow wide limits again (TooHighHere narrow wide limits again) w m) (λ w. Over narrow' wide' limits again' (TooHighHere narrow wide limits again) w m) t (over_more _ t.word m)
     faulty Number m moved t = front_more m (λ w. Over narrow wide limits again (TooManyHere narrow wide limits again) w m) (λ w. Over narrow' wide' limits again' (TooManyHere narrow wide limits again) w m) t (over_more _ t.word m)
 
-    known : (o : Outcome G.Token A) → (end ≡ true) ⊎ Moved j o → Known narrow' wide' limits again' j o → Known narrow wide limits again i o
+    known : (o : Outcome G.Label G.Token A) → (end ≡ true) ⊎ Moved j o → Known narrow' wide' limits again' j o → Known narrow wide limits again i o
     known (Ok x) moved t = front_more x.1 (λ w. Took narrow wide limits again w x.0 x.1) (λ w. Took narrow' wide' limits again' w x.0 x.1) t (λ h. record {
       text = more t.word x.0 h.text;
       holds = λ n a. go_on t.word n (Ok (x.0, n)) (alike_behind t.word x.1 n t.front moved a) (h.holds n a);
     })
     known (Err s) moved t = faulty s.0 s.1 moved t
 
-    pub good_behind : (o : Outcome G.Token A) → (end ≡ true) ⊎ Moved j o → Good narrow' wide' limits again' j o → Good narrow wide limits again i o
+    pub good_behind : (o : Outcome G.Label G.Token A) → (end ≡ true) ⊎ Moved j o → Good narrow' wide' limits again' j o → Good narrow wide limits again i o
     good_behind o moved g = record { run = known o moved g.run }
 
   -- ---- a fault within the first of two
 
-  module _ {A B : Type 0} (narrow' wide' : Word G → A → Type 0) (narrow wide : Word G → B → Type 0) (limits : Limits) (again' : Parser G.Token A) (again : Parser G.Token B)
-      (more : (w : Word G) (a : A) → narrow' w a → Completes narrow w) (widely : (w : Word G) (a : A) → wide' w a → Completes wide w)
-      (same : (x : List G.Token) (s : Fault × List G.Token) → again' x ≡ Err s → again x ≡ Err s) (i : List G.Token) where
+  module _ {A B : Type 0} (narrow' : Word G → A → Type 0) (wide' : G.Label → Word G → A → Type 0) (narrow : Word G → B → Type 0) (wide : G.Label → Word G → B → Type 0) (limits : Limits) (again' : Parser G.Label G.Token A) (again : Parser G.Label G.Token B)
+      (more : (w : Word G) (a : A) → narrow' w a → Completes narrow w) (widely : (e : G.Label) (w : Word G) (a : A) → wide' e w a → Completes (wide e) w)
+      (same : (x : List G.Token) (s : Fault G.Label × List G.Token) → again' x ≡ Err s → again x ≡ Err s) (i : List G.Token) where
     completes_on : (R : Word G → B → Type 0) (R' : Word G → A → Type 0) → ((w : Word G) (a : A) → R' w a → Completes R w) → (y : Word G) → Completes R' y → Completes R y
     completes_on R R' f y c = let d = f (y ++ c.missing) c.value c.begins in
         record { missing = c.missing ++ d.missing; value = d.value; begins = subst (λ (w : Word G). R w d.value) (append_assoc y c.missing d.missing) d.begins }
@@ -170,21 +170,21 @@ module _ (G : Signature) where
     over_on : (over : Letter G.Token → Type 0) (w : Word G) (m : List G.Token) → Over narrow' wide' limits again' over w m → Over narrow wide limits again over w m
     over_on over w m h = record { letter = h.letter; behind = h.behind; begin = h.begin; excess = h.excess; goes = completes_on narrow narrow' more (w ++ h.letter ∷ []) h.goes }
 
-    faulty_on : (s : Fault) (m : List G.Token) → Faulty narrow' wide' limits again' i s m → Faulty narrow wide limits again i s m
+    faulty_on : (s : Fault G.Label) (m : List G.Token) → Faulty narrow' wide' limits again' i s m → Faulty narrow wide limits again i s m
     faulty_on Syntax m t = front_on m (λ w. Refused narrow wide limits again w m) (λ w. Refused narrow' wide' limits again' w m) t (λ h. record {
       can = completes_on narrow narrow' more t.word h.can;
       holds = λ n a. same (raw t.word ++ n) (Syntax, n) (h.holds n a);
     })
-    faulty_on LeftOut m t = front_on m (λ w. Barred narrow wide limits again w m) (λ w. Barred narrow' wide' limits again' w m) t (λ h. record {
+    faulty_on (LeftOut e) m t = front_on m (λ w. Barred narrow wide limits again e w m) (λ w. Barred narrow' wide' limits again' e w m) t (λ h. record {
       can = completes_on narrow narrow' more t.word h.can;
       letter = h.letter;
       behind = h.behind;
       begin = h.begin;
-      goes = completes_on wide wide' widely (t.word ++ h.letter ∷ []) h.goes;
-      holds = λ n a. same (raw t.word ++ n) (LeftOut, n) (h.holds n a);
+      goes = completes_on (wide e) (wide' e) (widely e) (t.word ++ h.letter ∷ []) h.goes;
+      holds = λ n a. same (raw t.word ++ n) (LeftOut e, n) (h.holds n a);
     })
     faulty_on Nesting m t = front_on m (λ w. Over narrow wide limits again (TooHighHere narrow wide limits again) w m) (λ w. Over narrow' wide' limits again' (TooHighHere narrow wide limits again) w m) t (over_on _ t.word m)
     faulty_on Number m t = front_on m (λ w. Over narrow wide limits again (TooManyHere narrow wide limits again) w m) (λ w. Over narrow' wide' limits again' (TooManyHere narrow wide limits again) w m) t (over_on _ t.word m)
 
-    pub good_fault : (s : Fault × List G.Token) → Good narrow' wide' limits again' i (Err s) → Good narrow wide limits again i (Err s)
+    pub good_fault : (s : Fault G.Label × List G.Token) → Good narrow' wide' limits again' i (Err s) → Good narrow wide limits again i (Err s)
     good_fault s g = record { run = faulty_on s.0 s.1 g.run }

@@ -10,10 +10,10 @@ use Rattle.predictive_grammar.proofs.Texts.{Begins, first_kind}
 use Rattle.predictive_grammar.proofs.Taking.{Expected, other, high, many, comes, expected}
 use Rattle.predictive_grammar.proofs.Sound.{Text, Told, run_told}
 
-pub and_then_same : {T A B : Type 0} (o o' : Outcome T A) (f g : A → Parser T B) → o ≡ o' → ((a : A) (j : List T) → o ≡ Ok (a, j) → f a j ≡ g a j) → and_then o f ≡ and_then o' g
-and_then_same o o' f g e same = go o refl ∙ ap (λ (o : Outcome _ _). and_then o g) e
+pub and_then_same : {L T A B : Type 0} (o o' : Outcome L T A) (f g : A → Parser L T B) → o ≡ o' → ((a : A) (j : List T) → o ≡ Ok (a, j) → f a j ≡ g a j) → and_then o f ≡ and_then o' g
+and_then_same o o' f g e same = go o refl ∙ ap (λ (o : Outcome _ _ _). and_then o g) e
   where
-    go : (x : Outcome _ _) → o ≡ x → and_then x f ≡ and_then x g
+    go : (x : Outcome _ _ _) → o ≡ x → and_then x f ≡ and_then x g
     go (Ok x) e = same x.0 x.1 e
     go (Err s) e = refl
 
@@ -52,10 +52,10 @@ module _ (G : Signature) (forms : Productions G) (tables : Tables G) (h : IsPred
   turns {r = r} {q = q} f n i le left (inl e) = room f tables.top n (length i) (tables.rank q) (tables.rank r) le (left.fewer e) (h.low q)
   turns {r = r} {q = q} f n i le left (inr e) = fall f tables.top n (length i) (tables.rank q) (tables.rank r) le left.most e
 
-  module _ (limits : Limits) (one other_one : (q : G.Part) → ℕ → Parser G.Token (G.Tree q)) (told : (q : G.Part) (l : ℕ) (i : List G.Token) → Told G forms q (forms q) l i (one q l i))
+  module _ (limits : Limits) (one other_one : (q : G.Part) → ℕ → Parser G.Label G.Token (G.Tree q)) (told : (q : G.Part) (l : ℕ) (i : List G.Token) → Told G forms q (forms q) l i (one q l i))
       (f : ℕ) (same : (q : G.Part) (l : ℕ) (i : List G.Token) → enough tables.top (tables.rank q) i ≤ f → one q l i ≡ other_one q l i) where
     read_text : (q : G.Part) (l : ℕ) (i : List G.Token) (b : G.Tree q) (j : List G.Token) → one q l i ≡ Ok (b, j) → Text G forms q (forms q) l i b j
-    read_text q l i b j e = subst (λ (o : Outcome G.Token (G.Tree q)). Told G forms q (forms q) l i o) e (told q l i)
+    read_text q l i b j e = subst (λ (o : Outcome G.Label G.Token (G.Tree q)). Told G forms q (forms q) l i o) e (told q l i)
 
     pub walk_same : {r : G.Part} {form : Form G r} {moved : Bool} {first : G.Kind → Bool} {none : G.Tree r → Type 0} → Fit G tables r moved first none form
         → (n : ℕ) → tables.rank r + n * suc tables.top ≤ f → (l : ℕ) (i : List G.Token) → Left moved n i → walk G one limits r form l i ≡ walk G other_one limits r form l i
@@ -65,7 +65,7 @@ module _ (G : Signature) (forms : Productions G) (tables : Tables G) (h : IsPred
         go (λ t e ts short. walk_same (rest t e) n le l ts (left_less n i ts left short)) i (expect G limits (up l) items test i) (expected G limits (up l) items test i) (omega arith)
       where
         go : ((t : G.Token) → test (G.kind t) ≡ true → (ts : List G.Token) → length ts < length i → walk G one limits r (k t) l ts ≡ walk G other_one limits r (k t) l ts)
-            → (x : List G.Token) (o : Outcome G.Token G.Token) → Expected G limits (up l) items test x o → length x ≤ length i → and_then o (λ t. walk G one limits r (k t) l) ≡ and_then o (λ t. walk G other_one limits r (k t) l)
+            → (x : List G.Token) (o : Outcome G.Label G.Token G.Token) → Expected G limits (up l) items test x o → length x ≤ length i → and_then o (λ t. walk G one limits r (k t) l) ≡ and_then o (λ t. walk G other_one limits r (k t) l)
         go ih x o (other e) s = refl
         go ih x o (high e g) s = refl
         go ih x o (many e g g2) s = refl
@@ -83,15 +83,15 @@ module _ (G : Signature) (forms : Productions G) (tables : Tables G) (h : IsPred
             → (if c then walk G one limits r a l i else walk G one limits r b l i) ≡ (if c then walk G other_one limits r a l i else walk G other_one limits r b l i)
         both true x y = x
         both false x y = y
-    walk_same {r = r} (bars {left = lefts} {k = k} f1 z1 fit apart within left_in stops some) n le l i left =
-        ap (λ (o : Outcome G.Token (G.Tree r)). if next_is G.kind lefts i then Err (LeftOut, i) else o) (walk_same fit n le l i left)
+    walk_same {r = r} (bars {left = lefts} {e = label} {k = k} f1 z1 fit apart within left_in stops some) n le l i left =
+        ap (λ (o : Outcome G.Label G.Token (G.Tree r)). if next_is G.kind lefts i then Err (LeftOut label, i) else o) (walk_same fit n le l i left)
 
   -- enough turns, and one fewer
   abbrev pub turns_of : (p : G.Part) → List G.Token → ℕ
   turns_of p i = tables.rank p + length i * suc tables.top
 
   module _ (limits : Limits) where
-    abbrev here : (p : G.Part) → ℕ → Parser G.Token (G.Tree p)
+    abbrev here : (p : G.Part) → ℕ → Parser G.Label G.Token (G.Tree p)
     here p l = reader G forms tables.top tables.rank limits p l
 
     reader_is : (p : G.Part) (l : ℕ) (i : List G.Token) → here p l i ≡ run G forms (suc (turns_of p i)) limits p l i

@@ -7,7 +7,9 @@ pub mod Moves
 pub mod Known
 pub mod Good
 pub mod Complete
+pub mod Letters
 pub mod Main
+pub mod Once
 pub mod Sets
 pub mod Fits
 pub mod Ways

@@ -9,42 +9,42 @@ use Rattle.predictive_grammar.proofs.Taking.{Expected, other, high, many, comes,
 use Rattle.predictive_grammar.proofs.Sound.{Told, walk_told, reader_told}
 use Rattle.predictive_grammar.proofs.Law.{reader_law}
 
-abbrev pub MovedTo : {T : Type 0} → List T → Fault → List T → Type 0
+abbrev pub MovedTo : {L T : Type 0} → List T → Fault L → List T → Type 0
 MovedTo i Syntax m = length m < length i
-MovedTo i LeftOut m = length m < length i
+MovedTo i (LeftOut e) m = length m < length i
 MovedTo i Nesting m = Unit {0}
 MovedTo i Number m = Unit {0}
 
 -- a token was taken, or stands over a limit
-abbrev pub Moved : {T A : Type 0} → List T → Outcome T A → Type 0
+abbrev pub Moved : {L T A : Type 0} → List T → Outcome L T A → Type 0
 Moved i (Ok x) = length x.1 < length i
 Moved i (Err s) = MovedTo i s.0 s.1
 
 module _ (G : Signature) (forms : Productions G) where
-  moved_to : {T : Type 0} (i : List T) (s : Fault) (m : List T) → length m < length i → MovedTo i s m
+  moved_to : {L T : Type 0} (i : List T) (s : Fault L) (m : List T) → length m < length i → MovedTo i s m
   moved_to i Syntax m lt = lt
-  moved_to i LeftOut m lt = lt
+  moved_to i (LeftOut e) m lt = lt
   moved_to i Nesting m lt = tt
   moved_to i Number m lt = tt
 
   -- what goes on behind fewer tokens
-  pub moved_behind : (r : G.Part) (form : Form G r) (l : ℕ) (i j : List G.Token) (o : Outcome G.Token (G.Tree r)) → Told G forms r form l j o → length j < length i → Moved i o
+  pub moved_behind : (r : G.Part) (form : Form G r) (l : ℕ) (i j : List G.Token) (o : Outcome G.Label G.Token (G.Tree r)) → Told G forms r form l j o → length j < length i → Moved i o
   moved_behind r form l i j (Ok x) t lt = let n = behind_length t.word j x.1 t.front in omega arith
   moved_behind r form l i j (Err s) t lt = moved_to i s.0 s.1 (omega arith)
 
   module _ (tables : Tables G) (h : IsPredictive G forms tables) (limits : Limits) where
-    abbrev here : (p : G.Part) → ℕ → Parser G.Token (G.Tree p)
+    abbrev here : (p : G.Part) → ℕ → Parser G.Label G.Token (G.Tree p)
     here p l = reader G forms tables.top tables.rank limits p l
 
     told : (r : G.Part) (form : Form G r) (l : ℕ) (i : List G.Token) → Told G forms r form l i (walk G here limits r form l i)
     told r form l i = walk_told G forms limits here (reader_told G forms tables.top tables.rank limits) r form l i
 
     module _ (t : G.Token) (ts : List G.Token) where
-      moved_part : (r q : G.Part) (k : G.Tree q → Form G r) (l : ℕ) (o : Outcome G.Token (G.Tree q)) → Moved (t ∷ ts) o → Moved (t ∷ ts) (and_then o (λ b. walk G here limits r (k b) l))
+      moved_part : (r q : G.Part) (k : G.Tree q → Form G r) (l : ℕ) (o : Outcome G.Label G.Token (G.Tree q)) → Moved (t ∷ ts) o → Moved (t ∷ ts) (and_then o (λ b. walk G here limits r (k b) l))
       moved_part r q k l (Ok x) lt = moved_behind r (k x.0) l (t ∷ ts) x.1 (walk G here limits r (k x.0) l x.1) (told r (k x.0) l x.1) lt
       moved_part r q k l (Err s) m = m
 
-      moved_take : (r : G.Part) (level items : ℕ) (test : G.Kind → Bool) (k : G.Token → Form G r) (l : ℕ) → test (G.kind t) ≡ true → (i : List G.Token) (o : Outcome G.Token G.Token) → i ≡ t ∷ ts
+      moved_take : (r : G.Part) (level items : ℕ) (test : G.Kind → Bool) (k : G.Token → Form G r) (l : ℕ) → test (G.kind t) ≡ true → (i : List G.Token) (o : Outcome G.Label G.Token G.Token) → i ≡ t ∷ ts
           → Expected G limits level items test i o → Moved (t ∷ ts) (and_then o (λ t. walk G here limits r (k t) l))
       moved_take r level items test k l e i o is (other f) = absurd (true≢false (sym e ∙ sym (ap (next_is G.kind test) is) ∙ f))
       moved_take r level items test k l e i o is (high f g) = tt
@@ -60,16 +60,16 @@ module _ (G : Signature) (forms : Productions G) where
       walk_moves {r = r} (opens_part {up = up} {q = q} {k = k} e) moved first none (reads_none falls within fs zs rest more some st stops) asked l =
           moved_part r q k l (here q (up l) (t ∷ ts)) (asked q falls e (up l))
       walk_moves {r = r} (opens_first {test = test} {a = a} {b = b} e o) moved first none (picks f1 h1 z1 fit1 w1 within1 opens fit2 apart within2 stops some) asked l =
-          subst (λ (o : Outcome G.Token (G.Tree r)). Moved (t ∷ ts) o) (sym (choose_one G test (walk G here limits r a l) (walk G here limits r b l) (t ∷ ts) e)) (walk_moves o moved f1 (λ x. ⊥) fit1 asked l)
+          subst (λ (o : Outcome G.Label G.Token (G.Tree r)). Moved (t ∷ ts) o) (sym (choose_one G test (walk G here limits r a l) (walk G here limits r b l) (t ∷ ts) e)) (walk_moves o moved f1 (λ x. ⊥) fit1 asked l)
       walk_moves {r = r} (opens_second {test = test} {a = a} {b = b} e o) moved first none (picks f1 h1 z1 fit1 w1 within1 opens fit2 apart within2 stops some) asked l =
-          subst (λ (o : Outcome G.Token (G.Tree r)). Moved (t ∷ ts) o) (sym (choose_other G test (walk G here limits r a l) (walk G here limits r b l) (t ∷ ts) e)) (walk_moves o moved h1 z1 fit2 asked l)
-      walk_moves {r = r} (opens_bar {left = left} {k = k} e o) moved first none (bars f1 z1 fit apart within left_in stops some) asked l =
-          subst (λ (o : Outcome G.Token (G.Tree r)). Moved (t ∷ ts) o) (sym (choose_other G left (fail LeftOut) (walk G here limits r k l) (t ∷ ts) e)) (walk_moves o moved f1 z1 fit asked l)
+          subst (λ (o : Outcome G.Label G.Token (G.Tree r)). Moved (t ∷ ts) o) (sym (choose_other G test (walk G here limits r a l) (walk G here limits r b l) (t ∷ ts) e)) (walk_moves o moved h1 z1 fit2 asked l)
+      walk_moves {r = r} (opens_bar {left = left} {e = label} {k = k} e o) moved first none (bars f1 z1 fit apart within left_in stops some) asked l =
+          subst (λ (o : Outcome G.Label G.Token (G.Tree r)). Moved (t ∷ ts) o) (sym (choose_other G left (fail (LeftOut label)) (walk G here limits r k l) (t ∷ ts) e)) (walk_moves o moved f1 z1 fit asked l)
 
       part_moves : (n : ℕ) (p : G.Part) → tables.rank p < n → tables.opens p (G.kind t) ≡ true → (l : ℕ) → Moved (t ∷ ts) (here p l (t ∷ ts))
       part_moves zero p lt e l = absurd (omega arith)
       part_moves (suc n) p lt e l =
-          subst (λ (o : Outcome G.Token (G.Tree p)). Moved (t ∷ ts) o) (sym (reader_law G forms tables h limits p l (t ∷ ts)))
+          subst (λ (o : Outcome G.Label G.Token (G.Tree p)). Moved (t ∷ ts) o) (sym (reader_law G forms tables h limits p l (t ∷ ts)))
           (walk_moves (h.opens p (G.kind t) e) false (tables.first p) (tables.none p) (h.fits p) (λ q falls e l. part_moves n q (lower q falls) e l) l)
         where
           lower : (q : G.Part) → Falls tables false p q → tables.rank q < n

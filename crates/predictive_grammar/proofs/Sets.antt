@@ -14,6 +14,11 @@ abbrev pub implies : Bool → Bool → Bool
 implies true b = b
 implies false b = true
 
+-- What holds of all kinds, by something that is computed.
+pub record Checks (K : Type 0) : Type 1 where
+  pub Holds : (K → Bool) → Type 0
+  pub sound : (p : K → Bool) → Holds p → (x : K) → p x ≡ true
+
 -- all kinds
 pub record Finite (K : Type 0) : Type 0 where
   pub kinds : List K
@@ -33,11 +38,11 @@ or_second : (a b : Bool) → a ≡ false → (a || b) ≡ true → b ≡ true
 or_second true b e f = absurd (true≢false e)
 or_second false b e f = f
 
-implied : (a b : Bool) → implies a b ≡ true → a ≡ true → b ≡ true
+pub implied : (a b : Bool) → implies a b ≡ true → a ≡ true → b ≡ true
 implied true b e f = e
 implied false b e f = absurd (true≢false (sym f))
 
-not_true : (a : Bool) → not a ≡ true → a ≡ false
+pub not_true : (a : Bool) → not a ≡ true → a ≡ false
 not_true true e = absurd (true≢false (sym e))
 not_true false e = refl
 
@@ -48,6 +53,10 @@ or_left false b e = absurd (true≢false (sym e))
 pub or_right : (a b : Bool) → b ≡ true → (a || b) ≡ true
 or_right true b e = refl
 or_right false b e = e
+
+pub or_case : {C : Type 0} (a b : Bool) → (a || b) ≡ true → (a ≡ true → C) → (b ≡ true → C) → C
+or_case true b e f g = f refl
+or_case false b e f g = g e
 
 module _ {K : Type 0} (finite : Finite K) where
   all_at : (p : K → Bool) (x : K) (xs : List K) → all p xs ≡ true → any (finite.same x) xs ≡ true → p x ≡ true
@@ -64,8 +73,21 @@ module _ {K : Type 0} (finite : Finite K) where
   abbrev pub is_apart : (K → Bool) → (K → Bool) → Bool
   is_apart f g = all (λ x. implies (f x) (not (g x))) finite.kinds
 
-  pub within : (f g : K → Bool) → is_within f g ≡ true → Within f g
-  within f g e x = implied (f x) (g x) (all_at (λ x. implies (f x) (g x)) x finite.kinds e (finite.every x))
+  pub all_of : (p : K → Bool) → all p finite.kinds ≡ true → (x : K) → p x ≡ true
+  all_of p e x = all_at p x finite.kinds e (finite.every x)
 
-  pub apart : (f g : K → Bool) → is_apart f g ≡ true → Apart f g
-  apart f g e x i = not_true (g x) (implied (f x) (not (g x)) (all_at (λ x. implies (f x) (not (g x))) x finite.kinds e (finite.every x)) i)
+  abbrev pub by_list : Checks K
+  by_list = record { Holds = λ (p : K → Bool). all p finite.kinds ≡ true; sound = all_of }
+
+module _ {K : Type 0} (checks : Checks K) where
+  abbrev pub Inside : (K → Bool) → (K → Bool) → Type 0
+  Inside f g = checks.Holds (λ x. implies (f x) (g x))
+
+  abbrev pub Disjoint : (K → Bool) → (K → Bool) → Type 0
+  Disjoint f g = checks.Holds (λ x. implies (f x) (not (g x)))
+
+  pub within : (f g : K → Bool) → Inside f g → Within f g
+  within f g e x = implied (f x) (g x) (checks.sound (λ x. implies (f x) (g x)) e x)
+
+  pub apart : (f g : K → Bool) → Disjoint f g → Apart f g
+  apart f g e x i = not_true (g x) (implied (f x) (not (g x)) (checks.sound (λ x. implies (f x) (not (g x))) e x) i)

@@ -4,11 +4,12 @@ use Rattle.predictive_grammar.specs.Forms.{Form}
 use Rattle.predictive_grammar.specs.Steps.{Outcome, Syntax, LeftOut, Nesting, Number as TooMany}
 use Rattle.predictive_grammar.specs.Reading.{reader, walk, run}
 use Rattle.predictive_grammar.specs.Fit.{Opens, Fit, IsPredictive}
-use Rattle.predictive_grammar.specs.Small.{Kind, Number, Name, Plus, Power, Open, Close, Comma, If, Else, Semicolon, same, Token, Tree, Constant, Bracket, Add, Call, NoItem, Say, When, WhenElse, closed, Part, Sum, SumTail, Operand, Items, More, Act, Tail, small, forms, tail, behind_act, tables, ReadsExactly, HasOneTree}
-use Rattle.predictive_grammar.proofs.Sets.{Finite, any, is_within}
+use Rattle.predictive_grammar.specs.Small.{PowerOf, Kind, Number, Name, Plus, Power, Open, Close, Comma, If, Else, Semicolon, same, Token, Tree, Constant, Bracket, Add, Call, NoItem, Say, When, WhenElse, closed, Part, Sum, SumTail, Operand, Items, More, Act, Tail, small, forms, tail, behind_act, tables, ReadsExactly, HasOneTree, HasOneAnswer}
+use Rattle.predictive_grammar.proofs.Sets.{Finite, any, is_within, by_list}
 use Rattle.predictive_grammar.proofs.Fits.{Tabled, Nones, never, only, Among, done, token, text, choice, barred, fit_part, opens_as}
 use Rattle.predictive_grammar.proofs.Ways.{Way, end, by_token, by_text, one, other, on, some_text}
 use Rattle.predictive_grammar.proofs.Main as main
+use Rattle.predictive_grammar.proofs.Once as once
 
 same_is : (x y : Kind) → same x y ≡ true → x ≡ y
 same_is Number Number e = refl
@@ -50,7 +51,7 @@ means (Tail c b) a e = e
 means _ a e = e
 
 abbrev tabled : Tabled
-tabled = record { signature = small; forms = forms; tables = tables; finite = kinds; sample = sample; is_sample = is_sample; nones = nones; means = means }
+tabled = record { signature = small; forms = forms; tables = tables; checks = by_list kinds; Sample = Kind; shape = λ x. x; sample = sample; is_sample = is_sample; nones = nones; means = means }
 
 abbrev FitsAs : Part → Type 1
 FitsAs p = Fit small tables p false (tables.first p) (tables.none p) (forms p)
@@ -156,6 +157,9 @@ reads_exactly p l limits input = main.answers small forms tables predictive p l 
 pub has_one_tree : HasOneTree
 has_one_tree p l u v a b e x y = main.one_tree small forms tables predictive p l u v a b e x y
 
+pub has_one_answer : HasOneAnswer
+has_one_answer p l limits input x y a b = once.one_answer small forms tables predictive p l limits input x y a b
+
 -- ---- readings
 
 abbrev token_with : Kind → ℕ → Token
@@ -167,7 +171,7 @@ plain x = token_with x 0
 abbrev number : ℕ → Token
 number n = token_with Number n
 
-abbrev read : List Token → Outcome Token Tree
+abbrev read : List Token → Outcome small.Label Token Tree
 read input = reader small forms tables.top tables.rank (record { levels = 3; items = 2 }) Act 0 input
 
 -- `if (1) if (2) 3; else 4;`
@@ -187,7 +191,7 @@ unfolding reader run walk
 syntax = refl
 
 -- `1 ^ 2;`
-left_out : read (number 1 ∷ plain Power ∷ number 2 ∷ plain Semicolon ∷ []) ≡ Err (LeftOut, plain Power ∷ number 2 ∷ plain Semicolon ∷ [])
+left_out : read (number 1 ∷ plain Power ∷ number 2 ∷ plain Semicolon ∷ []) ≡ Err (LeftOut (PowerOf (Constant 1)), plain Power ∷ number 2 ∷ plain Semicolon ∷ [])
 unfolding reader run walk
 left_out = refl
 

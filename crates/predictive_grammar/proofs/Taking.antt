@@ -6,7 +6,7 @@ use Rattle.predictive_grammar.specs.Reading.{expect, choose}
 
 module _ (G : Signature) (limits : Limits) (level items : ℕ) (test : G.Kind → Bool) where
   -- no token of such a kind comes, or one does, and it is over a limit or is taken
-  pub data Expected : List G.Token → Outcome G.Token G.Token → Type 0 where
+  pub data Expected : List G.Token → Outcome G.Label G.Token G.Token → Type 0 where
     other : {i : List G.Token} → next_is G.kind test i ≡ false → Expected i (Err (Syntax, i))
     high : {t : G.Token} {ts : List G.Token} → test (G.kind t) ≡ true → limits.levels ≤ level → Expected (t ∷ ts) (Err (Nesting, t ∷ ts))
     many : {t : G.Token} {ts : List G.Token} → test (G.kind t) ≡ true → level < limits.levels → limits.items ≤ items → Expected (t ∷ ts) (Err (Number, t ∷ ts))
@@ -32,7 +32,7 @@ module _ (G : Signature) (limits : Limits) (level items : ℕ) (test : G.Kind �
   pub expect_other : (i : List G.Token) → next_is G.kind test i ≡ false → expect G limits level items test i ≡ Err (Syntax, i)
   expect_other i e = ap (λ (b : Bool). if b then shift limits level items i else fail Syntax i) e
 
-module _ (G : Signature) {A : Type 0} (test : G.Kind → Bool) (one other_way : Parser G.Token A) where
+module _ (G : Signature) {A : Type 0} (test : G.Kind → Bool) (one other_way : Parser G.Label G.Token A) where
   pub choose_one : (i : List G.Token) → next_is G.kind test i ≡ true → choose G test one other_way i ≡ one i
   choose_one i e = ap (λ (b : Bool). if b then one i else other_way i) e
 

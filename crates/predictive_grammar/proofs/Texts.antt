@@ -1,18 +1,21 @@
--- Texts: with which tokens they begin, that each form has one, and that the wide grammar has those of the grammar.
-use Rattle.std.proofs.Common.{◌≡◌, ℕ, Bool, true, false, [], ◌∷◌, ◌++◌, sym, true≢false}
+-- Texts: with which tokens they begin, that each form has one, and that a widened grammar has those of the grammar.
+use Rattle.std.proofs.Common.{◌≡◌, ℕ, Bool, true, false, [], ◌∷◌, ◌++◌, Option, Some, None}
 use Rattle.predictive_grammar.specs.Forms.{Signature, Form, Productions}
 use Rattle.predictive_grammar.specs.Follows.{Word, Follows, given, taken, read, first, second, kept, left_out}
 use Rattle.predictive_grammar.specs.Fit.{Within, Tables, Fit, gives, takes, reads, reads_none, picks, bars, IsPredictive}
 
+pub none_some : {A : Type 0} {a : A} → None ≡ Some a → ⊥
+none_some e = cc
+
 module _ (G : Signature) (forms : Productions G) where
-  pub wider : {r : G.Part} {form : Form G r} {l : ℕ} {w : Word G} {a : G.Tree r} → Follows G forms false r form l w a → Follows G forms true r form l w a
-  wider (given a) = given a
-  wider (taken t e d) = taken t e (wider d)
-  wider (read d c) = read (wider d) (wider c)
-  wider (first d) = first (wider d)
-  wider (second d) = second (wider d)
-  wider (kept d) = kept (wider d)
-  wider (left_out t e f d) = absurd (true≢false (sym e))
+  pub wider : {r : G.Part} {form : Form G r} {l : ℕ} {w : Word G} {a : G.Tree r} (wide : Option G.Label) → Follows G forms None r form l w a → Follows G forms wide r form l w a
+  wider wide (given a) = given a
+  wider wide (taken t e d) = taken t e (wider wide d)
+  wider wide (read d c) = read (wider wide d) (wider wide c)
+  wider wide (first d) = first (wider wide d)
+  wider wide (second d) = second (wider wide d)
+  wider wide (kept d) = kept (wider wide d)
+  wider wide (left_out t e f d) = absurd (none_some e)
 
   module _ (tables : Tables G) (h : IsPredictive G forms tables) where
     -- the word begins with one of the kinds, or is empty, and then the tree is one of those
@@ -36,7 +39,7 @@ module _ (G : Signature) (forms : Productions G) where
     begins_read_none f g none z [] v b a within more some e c = begins_more g f z none v a (more e) (some e) c
     begins_read_none f g none z (x ∷ u) v b a within more some e c = within (G.kind x.token) e
 
-    pub first_kind : {wide : Bool} {r : G.Part} {form : Form G r} {l : ℕ} {w : Word G} {a : G.Tree r} → Follows G forms wide r form l w a
+    pub first_kind : {wide : Option G.Label} {r : G.Part} {form : Form G r} {l : ℕ} {w : Word G} {a : G.Tree r} → Follows G forms wide r form l w a
         → (moved : Bool) (f : G.Kind → Bool) (none : G.Tree r → Type 0) → Fit G tables r moved f none form → Begins f none w a
     first_kind (given a) moved f none (gives b n) = n
     first_kind (taken t e d) moved f none (takes t0 e0 within fs zs rest) = within (G.kind t) e
@@ -53,12 +56,12 @@ module _ (G : Signature) (forms : Productions G) where
     first_kind (left_out t e lefts d) moved f none (bars f1 z1 fit apart within left stops some) = left (G.kind t) lefts
 
     -- a text of the form
-    pub record Some (r : G.Part) (form : Form G r) (l : ℕ) : Type 0 where
+    pub record Possible (r : G.Part) (form : Form G r) (l : ℕ) : Type 0 where
       pub word : Word G
       pub value : G.Tree r
-      pub text : Follows G forms false r form l word value
+      pub text : Follows G forms None r form l word value
 
-    pub possible : {r : G.Part} {form : Form G r} (l : ℕ) (moved : Bool) (f : G.Kind → Bool) (none : G.Tree r → Type 0) → Fit G tables r moved f none form → Some r form l
+    pub possible : {r : G.Part} {form : Form G r} (l : ℕ) (moved : Bool) (f : G.Kind → Bool) (none : G.Tree r → Type 0) → Fit G tables r moved f none form → Possible r form l
     possible l moved f none (gives a n) = record { word = []; value = a; text = given a }
     possible l moved f none (takes {up = up} {items = items} t e within fs zs rest) =
         let s = possible l true (fs t) (zs t) (rest t e) in record { word = record { token = t; level = up l; items = items } ∷ s.word; value = s.value; text = taken t e s.text }

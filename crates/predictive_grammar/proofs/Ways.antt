@@ -1,5 +1,5 @@
 -- Each part has a text: a way through its form, on which only cheaper parts are asked for.
-use Rattle.std.proofs.Common.{◌≡◌, ℕ, zero, suc, ◌<◌, Bool, true, false, [], ◌∷◌, ◌++◌, ap, ◌∙◌, arith, nat_lt, ltb-true}
+use Rattle.std.proofs.Common.{◌≡◌, ℕ, zero, suc, ◌<◌, Bool, true, None, [], ◌∷◌, ◌++◌, ap, ◌∙◌, arith, nat_lt, ltb-true}
 use Rattle.predictive_grammar.specs.Forms.{Signature, Form, give, take, part, pick, bar, Productions}
 use Rattle.predictive_grammar.specs.Follows.{Word, Follows, given, taken, read, first, second, kept, Reads}
 
@@ -8,13 +8,13 @@ module _ (G : Signature) (forms : Productions G) (cost : G.Part → ℕ) (sample
     end : {a : G.Tree r} → Way r (give a)
     by_token : {up : ℕ → ℕ} {items : ℕ} {test : G.Kind → Bool} {k : G.Token → Form G r} (x : G.Kind) → test x ≡ true → Way r (k (sample x)) → Way r (take up items test k)
     by_text : {up : ℕ → ℕ} {q : G.Part} {k : G.Tree q → Form G r} → nat_lt (cost q) (cost r) ≡ true → ((b : G.Tree q) → Way r (k b)) → Way r (part up q k)
-    by_known : {up : ℕ → ℕ} {q : G.Part} {k : G.Tree q → Form G r} (b : G.Tree q) → ((l : ℕ) → (w : Word G) × Reads G forms false q l w b) → Way r (k b) → Way r (part up q k)
+    by_known : {up : ℕ → ℕ} {q : G.Part} {k : G.Tree q → Form G r} (b : G.Tree q) → ((l : ℕ) → (w : Word G) × Reads G forms None q l w b) → Way r (k b) → Way r (part up q k)
     one : {test : G.Kind → Bool} {a b : Form G r} → Way r a → Way r (pick test a b)
     other : {test : G.Kind → Bool} {a b : Form G r} → Way r b → Way r (pick test a b)
-    on : {left : G.Kind → Bool} {k : Form G r} → Way r k → Way r (bar left k)
+    on : {left : G.Kind → Bool} {e : G.Label} {k : Form G r} → Way r k → Way r (bar left e k)
 
   abbrev Found : (r : G.Part) → Form G r → ℕ → Type 0
-  Found r form l = (w : Word G) × (a : G.Tree r) × Follows G forms false r form l w a
+  Found r form l = (w : Word G) × (a : G.Tree r) × Follows G forms None r form l w a
 
   follow : {r : G.Part} {form : Form G r} → Way r form → ((q : G.Part) (l : ℕ) → cost q < cost r → Found q (forms q) l) → (l : ℕ) → Found r form l
   follow (end {a = a}) texts l = ([], a, given a)
@@ -32,5 +32,5 @@ module _ (G : Signature) (forms : Productions G) (cost : G.Part → ℕ) (sample
     below zero p l lt = absurd (omega arith)
     below (suc n) p l lt = follow (ways p) (λ q l less. below n q l (omega arith)) l
 
-    pub some_text : (p : G.Part) (l : ℕ) → (w : Word G) × (a : G.Tree p) × Reads G forms false p l w a
+    pub some_text : (p : G.Part) (l : ℕ) → (w : Word G) × (a : G.Tree p) × Reads G forms None p l w a
     some_text p l = below (suc (cost p)) p l (omega arith)

@@ -1,5 +1,5 @@
 -- When one token of lookahead reads a grammar.
-use Rattle.std.specs.Prelude.{◌≡◌, ℕ, ◌<◌, ◌≤◌, Bool, true, false, ◌⊎◌}
+use Rattle.std.specs.Prelude.{◌≡◌, ℕ, ◌<◌, ◌≤◌, Bool, true, false, ◌⊎◌, None}
 use Rattle.predictive_grammar.specs.Forms.{Signature, Form, give, take, part, pick, bar, Productions}
 use Rattle.predictive_grammar.specs.Follows.{Word, Reads}
 
@@ -32,7 +32,7 @@ pub data Opens (G : Signature) (tables : Tables G) (r : G.Part) (x : G.Kind) : F
   opens_part : {up : ℕ → ℕ} {q : G.Part} {k : G.Tree q → Form G r} → tables.opens q x ≡ true → Opens G tables r x (part up q k)
   opens_first : {test : G.Kind → Bool} {a b : Form G r} → test x ≡ true → Opens G tables r x a → Opens G tables r x (pick test a b)
   opens_second : {test : G.Kind → Bool} {a b : Form G r} → test x ≡ false → Opens G tables r x b → Opens G tables r x (pick test a b)
-  opens_bar : {left : G.Kind → Bool} {k : Form G r} → left x ≡ false → Opens G tables r x k → Opens G tables r x (bar left k)
+  opens_bar : {left : G.Kind → Bool} {e : G.Label} {k : Form G r} → left x ≡ false → Opens G tables r x k → Opens G tables r x (bar left e k)
 
 -- A form fits in front of what its part's tree stops at: a token was taken before it in its part or not; a text of it that has tokens begins
 -- with one of `first`; and where it has none, the tree is one of `none`.
@@ -57,14 +57,14 @@ pub data Fit (G : Signature) (tables : Tables G) (r : G.Part) : (moved : Bool) �
       → Fit G tables r moved f (λ x. ⊥) a → Within f test → Within f first → ((x : G.Kind) → test x ≡ true → Opens G tables r x a)
       → Fit G tables r moved h z b → Apart h test → Within h first → ((x : G.Tree r) → z x → Apart (tables.stop r x) test) → ((x : G.Tree r) → z x → none x)
       → Fit G tables r moved first none (pick test a b)
-  bars : {moved : Bool} {first : G.Kind → Bool} {none : G.Tree r → Type 0} {left : G.Kind → Bool} {k : Form G r} (f : G.Kind → Bool) (z : G.Tree r → Type 0)
+  bars : {moved : Bool} {first : G.Kind → Bool} {none : G.Tree r → Type 0} {left : G.Kind → Bool} {e : G.Label} {k : Form G r} (f : G.Kind → Bool) (z : G.Tree r → Type 0)
       → Fit G tables r moved f z k → Apart f left → Within f first → Within left first → ((x : G.Tree r) → z x → Apart (tables.stop r x) left) → ((x : G.Tree r) → z x → none x)
-      → Fit G tables r moved first none (bar left k)
+      → Fit G tables r moved first none (bar left e k)
 
 -- One token of lookahead reads the grammar: each form fits its part's tables, each part opens as they say and has some text, and no rank is over
 -- the top.
 pub record IsPredictive (G : Signature) (forms : Productions G) (tables : Tables G) : Type 1 where
   pub fits : (p : G.Part) → Fit G tables p false (tables.first p) (tables.none p) (forms p)
   pub opens : (p : G.Part) (x : G.Kind) → tables.opens p x ≡ true → Opens G tables p x (forms p)
-  pub some : (p : G.Part) (l : ℕ) → (w : Word G) × (a : G.Tree p) × Reads G forms false p l w a
+  pub some : (p : G.Part) (l : ℕ) → (w : Word G) × (a : G.Tree p) × Reads G forms None p l w a
   pub low : (p : G.Part) → tables.rank p ≤ tables.top

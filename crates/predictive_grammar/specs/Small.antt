@@ -1,8 +1,8 @@
 -- A small grammar: sums of numbers, brackets and calls, and acts with the nearest `else`. A power would be a further operator, which is left out.
-use Rattle.std.specs.Prelude.{◌≡◌, ℕ, suc, Bool, true, false, not, ◌&&◌, ◌||◌, List}
+use Rattle.std.specs.Prelude.{◌≡◌, ℕ, suc, Bool, true, false, not, ◌&&◌, ◌||◌, List, None}
 use Rattle.predictive_grammar.specs.Forms.{Signature, Form, give, take, part, pick, bar, Productions}
 use Rattle.predictive_grammar.specs.Follows.{Word, raw, Reads}
-use Rattle.predictive_grammar.specs.Steps.{Limits}
+use Rattle.predictive_grammar.specs.Steps.{Limits, Outcome}
 use Rattle.predictive_grammar.specs.Reading.{reader}
 use Rattle.predictive_grammar.specs.Exact.{Answers}
 use Rattle.predictive_grammar.specs.Fit.{Tables}
@@ -66,8 +66,12 @@ pub data Part : Type 0 where
   -- what follows this first act behind `if` and the condition
   Tail : Tree → Tree → Part
 
+-- what is left out: a power of this sum
+pub data Label : Type 0 where
+  PowerOf : Tree → Label
+
 abbrev pub small : Signature
-small = record { Token = Token; Kind = Kind; kind = λ (t : Token). t.kind; Part = Part; Tree = λ (p : Part). Tree }
+small = record { Token = Token; Kind = Kind; kind = λ (t : Token). t.kind; Part = Part; Tree = λ (p : Part). Tree; Label = Label }
 
 -- at the level of the part, and one up
 abbrev pub here : ℕ → ℕ
@@ -86,7 +90,7 @@ tail c a false = give (When c a)
 
 abbrev pub forms : Productions small
 forms Sum = part here Operand (λ a. part here (SumTail a) (λ b. give b))
-forms (SumTail a) = bar (same Power) (pick (same Plus) (one here 0 Plus (λ t. part inside Operand (λ b. part here (SumTail (Add a b)) (λ c. give c)))) (give a))
+forms (SumTail a) = bar (same Power) (PowerOf a) (pick (same Plus) (one here 0 Plus (λ t. part inside Operand (λ b. part here (SumTail (Add a b)) (λ c. give c)))) (give a))
 forms Operand =
     pick (same Number) (one here 0 Number (λ t. give (Constant t.value)))
     (pick (same Open) (one here 0 Open (λ t. part inside Sum (λ a. one inside 0 Close (λ s. give (Bracket a)))))
@@ -149,4 +153,8 @@ ReadsExactly = (p : Part) (l : ℕ) (limits : Limits) (input : List Token) → A
 
 -- Texts of a part with the same tokens have the same tree.
 abbrev pub HasOneTree : Type 0
-HasOneTree = (p : Part) (l : ℕ) (u v : Word small) (a b : Tree) → raw u ≡ raw v → Reads small forms false p l u a → Reads small forms false p l v b → a ≡ b
+HasOneTree = (p : Part) (l : ℕ) (u v : Word small) (a b : Tree) → raw u ≡ raw v → Reads small forms None p l u a → Reads small forms None p l v b → a ≡ b
+
+-- Tokens have one answer.
+abbrev pub HasOneAnswer : Type 0
+HasOneAnswer = (p : Part) (l : ℕ) (limits : Limits) (input : List Token) (x y : Outcome small.Label Token Tree) → Answers small forms p l limits input x → Answers small forms p l limits input y → x ≡ y

@@ -3,4 +3,6 @@
 
 mod laws;
 
-pub use laws::{small_texts_are_read_exactly, small_texts_have_one_tree};
+pub use laws::{
+    small_texts_are_read_exactly, small_texts_have_one_answer, small_texts_have_one_tree,
+};

@@ -4,7 +4,5 @@
 mod code;
 mod member;
 mod names;
-#[cfg(test)]
-mod tests;
 
 pub use member::clone_in;

@@ -1,5 +1,5 @@
 -- What holds of the grammar of expressions, types and statements, holds of it as a part of the grammar of files.
-use Rattle.std.proofs.Common.{◌≡◌, ℕ, Bool, true, false, if◌then◌else◌, List, refl, sym, ap, ◌∙◌, codes}
+use Rattle.std.proofs.Common.{◌≡◌, ℕ, Bool, true, false, if◌then◌else◌, List, Option, refl, sym, ap, ◌∙◌, codes}
 use Rattle.predictive_grammar.specs.Forms.{Form}
 use Rattle.predictive_grammar.specs.Follows.{Word, Follows, given, taken, read, first, second, kept, left_out}
 use Rattle.predictive_grammar.specs.Fit.{Opens, opens_take, opens_part, opens_first, opens_second, opens_bar, Fit, gives, takes, reads, reads_none, picks, bars}
@@ -10,11 +10,12 @@ use Rattle.vala_grammar.specs.Sorts.{sort}
 use Rattle.vala_grammar.specs.Trees.{same_bytes}
 use Rattle.vala_lexer.specs.Texts.{text_value}
 use Rattle.vala_file_grammar.specs.declared.kind.Special.TheVariants as special
+use Rattle.vala_grammar.specs.Label.{Label}
 use Rattle.vala_grammar.specs.Parts.{Part, tree_of}
 use Rattle.vala_grammar.specs.Grammar as code
 use Rattle.vala_grammar.specs.Grammar.{G}
 use Rattle.vala_grammar.specs.Tables as code_tables
-use Rattle.vala_file_grammar.specs.Kinds.{Kind, Of, Word as Worded, CText, is_c_identifier, kind_of, kind, sort_in, of_sort}
+use Rattle.vala_file_grammar.specs.Kinds.{Kind, Of, Word as Worded, CText, is_c_identifier, base_of, sort_of_base, kind, sort_in, of_sort}
 use Rattle.vala_file_grammar.specs.Parts.{Code}
 use Rattle.vala_file_grammar.specs.Embed.{F, embed}
 use Rattle.vala_file_grammar.specs.Grammar.{forms}
@@ -22,7 +23,7 @@ use Rattle.vala_file_grammar.specs.Tables.{tables}
 
 -- ---- the sort is a part of the kind
 
-name_sort : (a b c d e : Bool) → sort_in (if a then Worded special.Get else if b then Worded special.Set else if c then Worded special.CCode else if d then Worded special.HeaderFilename else if e then Worded special.CName else Of s.Identifier) ≡ s.Identifier
+name_sort : (a b c d e : Bool) → sort_of_base (if a then Worded special.Get else if b then Worded special.Set else if c then Worded special.CCode else if d then Worded special.HeaderFilename else if e then Worded special.CName else Of s.Identifier) ≡ s.Identifier
 name_sort true b c d e = refl
 name_sort false true c d e = refl
 name_sort false false true d e = refl
@@ -30,11 +31,11 @@ name_sort false false false true e = refl
 name_sort false false false false true = refl
 name_sort false false false false false = refl
 
-text_sort : (a : Bool) → sort_in (if a then CText else Of s.Text) ≡ s.Text
+text_sort : (a : Bool) → sort_of_base (if a then CText else Of s.Text) ≡ s.Text
 text_sort true = refl
 text_sort false = refl
 
-sort_of_kind : (x : Sort) (w : List ℕ) → sort_in (kind_of x w) ≡ x
+sort_of_kind : (x : Sort) (w : List ℕ) → sort_of_base (base_of x w) ≡ x
 sort_of_kind s.Identifier w =
     name_sort (same_bytes w (codes "get")) (same_bytes w (codes "set")) (same_bytes w (codes "CCode")) (same_bytes w (codes "cheader_filename")) (same_bytes w (codes "cname"))
 sort_of_kind s.Text w = text_sort (is_c_identifier (text_value w))
@@ -72,7 +73,7 @@ fit_code (picks f h z one i j opens other k m stops some) =
 fit_code (bars f z one i j m stops some) =
     bars (of_sort f) z (fit_code one) (λ x e. i (sort_in x) e) (λ x e. j (sort_in x) e) (λ x e. m (sort_in x) e) (λ a n x e. stops a n (sort_in x) e) some
 
-pub text_code : {wide : Bool} {r : Part} {form : Form G r} {l : ℕ} {w : Word G} {a : tree_of r} → Follows G code.forms wide r form l w a → Follows F forms wide (Code r) (embed form) l w a
+pub text_code : {wide : Option Label} {r : Part} {form : Form G r} {l : ℕ} {w : Word G} {a : tree_of r} → Follows G code.forms wide r form l w a → Follows F forms wide (Code r) (embed form) l w a
 unfolding forms
 text_code (given a) = given a
 text_code (taken {test = test} t e x) = taken t (as_sort test t e) (text_code x)

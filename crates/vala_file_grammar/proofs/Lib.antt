@@ -8,6 +8,6 @@ pub mod FitDeclarations
 pub mod Texts
 pub mod Predictive
 pub mod Readers
+pub mod FileAnswers
 pub mod Readings
-pub mod HeadReadings
-pub mod HeadsOnce
+pub mod WordReadings

@@ -1,5 +1,5 @@
 -- One token of lookahead reads the grammar.
-use Rattle.std.proofs.Common.{◌≡◌, ◌≤◌, true, refl, arith}
+use Rattle.std.proofs.Common.{◌≡◌, ◌≤◌, true, [], ◌∷◌, refl, arith}
 use Rattle.predictive_grammar.specs.Fit.{Opens, IsPredictive}
 use Rattle.predictive_grammar.proofs.Fits.{opens_as}
 use Rattle.vala_grammar.proofs.Predictive as code
@@ -31,7 +31,7 @@ fits AttributeOf = fit_attribute
 fits (AttributeBody o) = fit_attribute_body o
 fits (AttributeArguments xs) = fit_attribute_arguments xs
 fits (MoreAttributeArguments xs) = fit_more_attribute_arguments xs
-fits (DeclarationOf y a) = fit_declaration y a
+fits (DeclarationOf y ms) = fit_declaration y ms
 fits (NamespaceOf t) = fit_namespace t
 fits (ClassOf i t) = fit_class i t
 fits (StructOf t) = fit_struct t
@@ -39,11 +39,11 @@ fits (EnumOf t) = fit_enum t
 fits (ErrorsOf t) = fit_errors t
 fits (DelegateOf t) = fit_delegate t
 fits (ConstantOf t) = fit_constant t
-fits (DestructorOf t) = fit_destructor t
+fits (DestructorOf c t) = fit_destructor c t
 fits (SignalOf t) = fit_signal t
 fits (TypeEnd n) = fit_type_end n
-fits (NamedBy y a t) = fit_named y a t
-fits (Typed y a t n) = fit_typed y a t n
+fits (NamedBy y ms t) = fit_named y ms t
+fits (Typed y ms t n) = fit_typed y ms t n
 fits (CreationOf n) = fit_creation n
 fits Bases = fit_bases
 fits ThrowsOf = fit_throws
@@ -78,15 +78,17 @@ opening_as (Members y ms) = opens_as tabled (Members y ms) refl
 opening_as (MemberOf Outside) = opens_as tabled (MemberOf Outside) refl
 opening_as (MemberOf (Inside i c)) = opens_as tabled (MemberOf (Inside i c)) refl
 opening_as (Attributes y xs) = opens_as tabled (Attributes y xs) refl
-opening_as (Modifiers Outside xs ms) = opens_as tabled (Modifiers Outside xs ms) refl
-opening_as (Modifiers (Inside i c) xs ms) = opens_as tabled (Modifiers (Inside i c) xs ms) refl
+opening_as (Modifiers Outside xs []) = opens_as tabled (Modifiers Outside xs []) refl
+opening_as (Modifiers (Inside i c) xs []) = opens_as tabled (Modifiers (Inside i c) xs []) refl
+opening_as (Modifiers y xs (m ∷ ms)) = opens_as tabled (Modifiers y xs (m ∷ ms)) refl
 opening_as (MoreModifiers y xs ms) = opens_as tabled (MoreModifiers y xs ms) refl
 opening_as AttributeOf = opens_as tabled AttributeOf refl
 opening_as (AttributeBody o) = opens_as tabled (AttributeBody o) refl
 opening_as (AttributeArguments xs) = opens_as tabled (AttributeArguments xs) refl
 opening_as (MoreAttributeArguments xs) = opens_as tabled (MoreAttributeArguments xs) refl
-opening_as (DeclarationOf Outside a) = opens_as tabled (DeclarationOf Outside a) refl
-opening_as (DeclarationOf (Inside i c) a) = opens_as tabled (DeclarationOf (Inside i c) a) refl
+opening_as (DeclarationOf Outside []) = opens_as tabled (DeclarationOf Outside []) refl
+opening_as (DeclarationOf (Inside i c) []) = opens_as tabled (DeclarationOf (Inside i c) []) refl
+opening_as (DeclarationOf y (m ∷ ms)) = opens_as tabled (DeclarationOf y (m ∷ ms)) refl
 opening_as (NamespaceOf t) = opens_as tabled (NamespaceOf t) refl
 opening_as (ClassOf i t) = opens_as tabled (ClassOf i t) refl
 opening_as (StructOf t) = opens_as tabled (StructOf t) refl
@@ -94,11 +96,11 @@ opening_as (EnumOf t) = opens_as tabled (EnumOf t) refl
 opening_as (ErrorsOf t) = opens_as tabled (ErrorsOf t) refl
 opening_as (DelegateOf t) = opens_as tabled (DelegateOf t) refl
 opening_as (ConstantOf t) = opens_as tabled (ConstantOf t) refl
-opening_as (DestructorOf t) = opens_as tabled (DestructorOf t) refl
+opening_as (DestructorOf c t) = opens_as tabled (DestructorOf c t) refl
 opening_as (SignalOf t) = opens_as tabled (SignalOf t) refl
 opening_as (TypeEnd n) = opens_as tabled (TypeEnd n) refl
-opening_as (NamedBy y a t) = opens_as tabled (NamedBy y a t) refl
-opening_as (Typed y a t n) = opens_as tabled (Typed y a t n) refl
+opening_as (NamedBy y ms t) = opens_as tabled (NamedBy y ms t) refl
+opening_as (Typed y ms t n) = opens_as tabled (Typed y ms t n) refl
 opening_as (CreationOf n) = opens_as tabled (CreationOf n) refl
 opening_as Bases = opens_as tabled Bases refl
 opening_as ThrowsOf = opens_as tabled ThrowsOf refl

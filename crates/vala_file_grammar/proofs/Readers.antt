@@ -7,6 +7,7 @@ use Rattle.predictive_grammar.proofs.Main as main
 use Rattle.predictive_grammar.proofs.Law as law
 use Rattle.predictive_grammar.proofs.Sound.{Told, run_told}
 use Rattle.vala_lexer.specs.Tokens.{Lexeme}
+use Rattle.vala_grammar.specs.Label.{Label}
 use Rattle.vala_grammar.specs.Parts.{Part}
 use Rattle.vala_grammar.specs.Grammar as code
 use Rattle.vala_grammar.specs.Grammar.{G}
@@ -16,11 +17,11 @@ use Rattle.vala_grammar.specs.Read.{vala_reader}
 use Rattle.vala_grammar.proofs.Predictive as code_proof
 use Rattle.vala_grammar.proofs.Readers.{reader_unfolds}
 use Rattle.vala_grammar.specs.declared.sort.Sort.{Sort}
-use Rattle.vala_file_grammar.specs.Kinds.{of_sort}
+use Rattle.vala_file_grammar.specs.Kinds.{Kind, of_sort}
 use Rattle.vala_file_grammar.proofs.Embedded.{same_sort}
 use Rattle.vala_file_grammar.specs.Parts.{FilePart, Code, file_tree_of}
 use Rattle.vala_file_grammar.specs.Embed.{F, embed}
-use Rattle.vala_file_grammar.specs.Grammar.{forms}
+use Rattle.vala_file_grammar.specs.Grammar.{forms, where_some, where_token}
 use Rattle.vala_file_grammar.specs.Tables.{tables}
 use Rattle.vala_file_grammar.specs.Read.{file_reader, ReadsExactly, HasOneTree, ReadsCode}
 use Rattle.vala_file_grammar.proofs.Predictive.{predictive}
@@ -35,6 +36,21 @@ has_one_tree p level u v a b e x y = main.one_tree F forms tables predictive p l
 pub reader_unfolds_file : (p : FilePart) (level : ℕ) (input : List Lexeme) → file_reader p level input ≡ walk F file_reader limits p (forms p) level input
 reader_unfolds_file p level input = law.reader_law F forms tables predictive limits p level input
 
+-- a choice that is there only where some token passes its test is that choice
+pub walk_some : (parts : (q : FilePart) → ℕ → Parser Label Lexeme (file_tree_of q)) (r : FilePart) (b : Bool) (test : Kind → Bool) (k : Lexeme → Form F r) (other : Form F r) (l : ℕ) (i : List Lexeme)
+    → (b ≡ false → (x : Kind) → test x ≡ false) → walk F parts limits r (where_some b test k other) l i ≡ walk F parts limits r (where_token test k other) l i
+unfolding walk
+walk_some parts r true test k other l i none = refl
+walk_some parts r false test k other l i none = both_ways (next_is F.kind test i) (none_next i)
+  where
+    none_next : (i : List Lexeme) → next_is F.kind test i ≡ false
+    none_next [] = refl
+    none_next (t ∷ ts) = none refl (F.kind t)
+
+    both_ways : (c : Bool) → c ≡ false → walk F parts limits r other l i ≡ (if c then walk F parts limits r (take (λ l. l) 0 test k) l i else walk F parts limits r other l i)
+    both_ways true e = absurd (true≢false e)
+    both_ways false e = refl
+
 -- ---- the readers of expressions, types and statements
 
 next_same : (test : Sort → Bool) (i : List Lexeme) → next_is F.kind (of_sort test) i ≡ next_is G.kind test i
@@ -48,7 +64,7 @@ both true false x y u v e f g = absurd (true≢false e)
 both false true x y u v e f g = absurd (true≢false (sym e))
 
 -- a form walks as it did
-walk_embed : (parts : (q : FilePart) → ℕ → Parser Lexeme (file_tree_of q)) {r : Part} (form : Form G r) (l : ℕ) (i : List Lexeme)
+walk_embed : (parts : (q : FilePart) → ℕ → Parser Label Lexeme (file_tree_of q)) {r : Part} (form : Form G r) (l : ℕ) (i : List Lexeme)
     → walk G (λ q. parts (Code q)) limits r form l i ≡ walk F parts limits (Code r) (embed form) l i
 unfolding walk
 walk_embed parts (give a) l i = refl
@@ -61,8 +77,8 @@ walk_embed parts {r = r} (part up q k) l i =
 walk_embed parts {r = r} (pick test a b) l i =
     both (next_is G.kind test i) (next_is F.kind (of_sort test) i) (walk G (λ q. parts (Code q)) limits r a l i) (walk F parts limits (Code r) (embed a) l i)
     (walk G (λ q. parts (Code q)) limits r b l i) (walk F parts limits (Code r) (embed b) l i) (sym (next_same test i)) (walk_embed parts a l i) (walk_embed parts b l i)
-walk_embed parts {r = r} (bar left k) l i =
-    both (next_is G.kind left i) (next_is F.kind (of_sort left) i) (Err (LeftOut, i)) (Err (LeftOut, i))
+walk_embed parts {r = r} (bar left e k) l i =
+    both (next_is G.kind left i) (next_is F.kind (of_sort left) i) (Err (LeftOut e, i)) (Err (LeftOut e, i))
     (walk G (λ q. parts (Code q)) limits r k l i) (walk F parts limits (Code r) (embed k) l i) (sym (next_same left i)) refl (walk_embed parts k l i)
 
 told : (q : Part) (l : ℕ) (i : List Lexeme) → Told G code.forms q (code.forms q) l i (vala_reader q l i)

@@ -1,6 +1,7 @@
 -- Readings of short texts, computed. A bar stands in front of the first token that is not read.
 use Rattle.std.proofs.Common.{◌≡◌, refl, List, [], ◌∷◌, Some, None, Ok, Err, codes, ℕ}
 use Rattle.predictive_grammar.specs.Steps.{Outcome, Syntax, LeftOut, Nesting, Number}
+use Rattle.vala_grammar.specs.Label.{Label, Here}
 use Rattle.predictive_grammar.specs.Reading.{reader, walk, run}
 use Rattle.vala_lexer.specs.Tokens.{Lexeme}
 use Rattle.vala_lexer.specs.declared.token.TokenKind.TheVariants as k
@@ -21,11 +22,11 @@ use Rattle.vala_file_grammar.proofs.Finite.{sample}
 abbrev word : List ℕ → Lexeme
 word x = record { kind = k.Identifier; text = x; span = record { file = 0; start = 0; «end» = 0 } }
 
-abbrev file : List Lexeme → Outcome Lexeme FileText
+abbrev file : List Lexeme → Outcome Label Lexeme FileText
 file i = file_reader File 0 i
 
 -- under smaller limits
-abbrev small : List Lexeme → Outcome Lexeme FileText
+abbrev small : List Lexeme → Outcome Label Lexeme FileText
 small i = reader F forms tables.top tables.rank (record { levels = 3; items = 2 }) File 0 i
 
 abbrev s_Assign : Lexeme
@@ -177,17 +178,17 @@ unfolding reader run walk forms code_grammar.forms
 attribute_and_modifier = refl
 
 -- `[ | x ]`
-attribute_of_another_name : file (s_OpenBracket ∷ w_x ∷ s_CloseBracket ∷ []) ≡ Err (LeftOut, w_x ∷ s_CloseBracket ∷ [])
+attribute_of_another_name : file (s_OpenBracket ∷ w_x ∷ s_CloseBracket ∷ []) ≡ Err (LeftOut Here, w_x ∷ s_CloseBracket ∷ [])
 unfolding reader run walk forms code_grammar.forms
 attribute_of_another_name = refl
 
 -- `[ CCode ( | x = "a"`
-argument_of_another_name : file (s_OpenBracket ∷ w_CCode ∷ s_OpenParen ∷ w_x ∷ s_Assign ∷ c_text ∷ []) ≡ Err (LeftOut, w_x ∷ s_Assign ∷ c_text ∷ [])
+argument_of_another_name : file (s_OpenBracket ∷ w_CCode ∷ s_OpenParen ∷ w_x ∷ s_Assign ∷ c_text ∷ []) ≡ Err (LeftOut Here, w_x ∷ s_Assign ∷ c_text ∷ [])
 unfolding reader run walk forms code_grammar.forms
 argument_of_another_name = refl
 
 -- `[ CCode ( cname = | "" )`
-text_is_no_c_identifier : file (s_OpenBracket ∷ w_CCode ∷ s_OpenParen ∷ w_cname ∷ s_Assign ∷ s_Text ∷ s_CloseParen ∷ []) ≡ Err (LeftOut, s_Text ∷ s_CloseParen ∷ [])
+text_is_no_c_identifier : file (s_OpenBracket ∷ w_CCode ∷ s_OpenParen ∷ w_cname ∷ s_Assign ∷ s_Text ∷ s_CloseParen ∷ []) ≡ Err (LeftOut Here, s_Text ∷ s_CloseParen ∷ [])
 unfolding reader run walk forms code_grammar.forms
 text_is_no_c_identifier = refl
 
@@ -202,17 +203,17 @@ unfolding reader run walk forms code_grammar.forms
 method = refl
 
 -- `async void f ( | out int x`
-out_in_an_async_method : file (s_Async ∷ s_Void ∷ w_f ∷ s_OpenParen ∷ s_Out ∷ w_int ∷ w_x ∷ []) ≡ Err (LeftOut, s_Out ∷ w_int ∷ w_x ∷ [])
+out_in_an_async_method : file (s_Async ∷ s_Void ∷ w_f ∷ s_OpenParen ∷ s_Out ∷ w_int ∷ w_x ∷ []) ≡ Err (LeftOut Here, s_Out ∷ w_int ∷ w_x ∷ [])
 unfolding reader run walk forms code_grammar.forms
 out_in_an_async_method = refl
 
 -- `public | new int`
-new_among_modifiers : file (s_Public ∷ s_New ∷ w_int ∷ []) ≡ Err (LeftOut, s_New ∷ w_int ∷ [])
+new_among_modifiers : file (s_Public ∷ s_New ∷ w_int ∷ []) ≡ Err (LeftOut Here, s_New ∷ w_int ∷ [])
 unfolding reader run walk forms code_grammar.forms
 new_among_modifiers = refl
 
 -- `| new int`
-new_first : file (s_New ∷ w_int ∷ []) ≡ Err (LeftOut, s_New ∷ w_int ∷ [])
+new_first : file (s_New ∷ w_int ∷ []) ≡ Err (LeftOut Here, s_New ∷ w_int ∷ [])
 unfolding reader run walk forms code_grammar.forms
 new_first = refl
 
@@ -242,7 +243,7 @@ unfolding reader run walk forms code_grammar.forms
 creation_method_outside = refl
 
 -- `class c { public | class x {`
-class_in_a_class : file (s_Class ∷ w_c ∷ s_OpenBrace ∷ s_Public ∷ s_Class ∷ w_x ∷ s_OpenBrace ∷ []) ≡ Err (LeftOut, s_Class ∷ w_x ∷ s_OpenBrace ∷ [])
+class_in_a_class : file (s_Class ∷ w_c ∷ s_OpenBrace ∷ s_Public ∷ s_Class ∷ w_x ∷ s_OpenBrace ∷ []) ≡ Err (LeftOut Here, s_Class ∷ w_x ∷ s_OpenBrace ∷ [])
 unfolding reader run walk forms code_grammar.forms
 class_in_a_class = refl
 
@@ -252,7 +253,7 @@ unfolding reader run walk forms code_grammar.forms
 class_in_a_namespace = refl
 
 -- `class c : x | < int`
-generic_base : file (s_Class ∷ w_c ∷ s_Colon ∷ w_x ∷ s_Less ∷ w_int ∷ []) ≡ Err (LeftOut, s_Less ∷ w_int ∷ [])
+generic_base : file (s_Class ∷ w_c ∷ s_Colon ∷ w_x ∷ s_Less ∷ w_int ∷ []) ≡ Err (LeftOut Here, s_Less ∷ w_int ∷ [])
 unfolding reader run walk forms code_grammar.forms
 generic_base = refl
 
@@ -262,12 +263,12 @@ unfolding reader run walk forms code_grammar.forms
 generic_class = refl
 
 -- `class c { int x | throws f {`
-property_that_throws : file (s_Class ∷ w_c ∷ s_OpenBrace ∷ w_int ∷ w_x ∷ s_Throws ∷ w_f ∷ s_OpenBrace ∷ []) ≡ Err (LeftOut, s_Throws ∷ w_f ∷ s_OpenBrace ∷ [])
+property_that_throws : file (s_Class ∷ w_c ∷ s_OpenBrace ∷ w_int ∷ w_x ∷ s_Throws ∷ w_f ∷ s_OpenBrace ∷ []) ≡ Err (LeftOut Here, s_Throws ∷ w_f ∷ s_OpenBrace ∷ [])
 unfolding reader run walk forms code_grammar.forms
 property_that_throws = refl
 
 -- `class c { int x { get | throws f ;`
-accessor_that_throws : file (s_Class ∷ w_c ∷ s_OpenBrace ∷ w_int ∷ w_x ∷ s_OpenBrace ∷ w_get ∷ s_Throws ∷ w_f ∷ s_Semicolon ∷ []) ≡ Err (LeftOut, s_Throws ∷ w_f ∷ s_Semicolon ∷ [])
+accessor_that_throws : file (s_Class ∷ w_c ∷ s_OpenBrace ∷ w_int ∷ w_x ∷ s_OpenBrace ∷ w_get ∷ s_Throws ∷ w_f ∷ s_Semicolon ∷ []) ≡ Err (LeftOut Here, s_Throws ∷ w_f ∷ s_Semicolon ∷ [])
 unfolding reader run walk forms code_grammar.forms
 accessor_that_throws = refl
 
@@ -277,32 +278,32 @@ unfolding reader run walk forms code_grammar.forms
 property = refl
 
 -- `interface c { void f ( ) | { }`
-interface_method_with_a_body : file (s_Interface ∷ w_c ∷ s_OpenBrace ∷ s_Void ∷ w_f ∷ s_OpenParen ∷ s_CloseParen ∷ s_OpenBrace ∷ s_CloseBrace ∷ []) ≡ Err (LeftOut, s_OpenBrace ∷ s_CloseBrace ∷ [])
+interface_method_with_a_body : file (s_Interface ∷ w_c ∷ s_OpenBrace ∷ s_Void ∷ w_f ∷ s_OpenParen ∷ s_CloseParen ∷ s_OpenBrace ∷ s_CloseBrace ∷ []) ≡ Err (LeftOut Here, s_OpenBrace ∷ s_CloseBrace ∷ [])
 unfolding reader run walk forms code_grammar.forms
 interface_method_with_a_body = refl
 
 -- `struct c { int x | = x`
-struct_field_with_a_value : file (s_Struct ∷ w_c ∷ s_OpenBrace ∷ w_int ∷ w_x ∷ s_Assign ∷ w_x ∷ []) ≡ Err (LeftOut, s_Assign ∷ w_x ∷ [])
+struct_field_with_a_value : file (s_Struct ∷ w_c ∷ s_OpenBrace ∷ w_int ∷ w_x ∷ s_Assign ∷ w_x ∷ []) ≡ Err (LeftOut Here, s_Assign ∷ w_x ∷ [])
 unfolding reader run walk forms code_grammar.forms
 struct_field_with_a_value = refl
 
 -- `struct c { int x | ( )`
-struct_method : file (s_Struct ∷ w_c ∷ s_OpenBrace ∷ w_int ∷ w_x ∷ s_OpenParen ∷ s_CloseParen ∷ []) ≡ Err (LeftOut, s_OpenParen ∷ s_CloseParen ∷ [])
+struct_method : file (s_Struct ∷ w_c ∷ s_OpenBrace ∷ w_int ∷ w_x ∷ s_OpenParen ∷ s_CloseParen ∷ []) ≡ Err (LeftOut Here, s_OpenParen ∷ s_CloseParen ∷ [])
 unfolding reader run walk forms code_grammar.forms
 struct_method = refl
 
 -- `const int x = | { x }`
-constant_array : file (s_Const ∷ w_int ∷ w_x ∷ s_Assign ∷ s_OpenBrace ∷ w_x ∷ s_CloseBrace ∷ []) ≡ Err (LeftOut, s_OpenBrace ∷ w_x ∷ s_CloseBrace ∷ [])
+constant_array : file (s_Const ∷ w_int ∷ w_x ∷ s_Assign ∷ s_OpenBrace ∷ w_x ∷ s_CloseBrace ∷ []) ≡ Err (LeftOut Here, s_OpenBrace ∷ w_x ∷ s_CloseBrace ∷ [])
 unfolding reader run walk forms code_grammar.forms
 constant_array = refl
 
 -- `class c { signal | int x ( )`
-signal_with_a_result : file (s_Class ∷ w_c ∷ s_OpenBrace ∷ s_Signal ∷ w_int ∷ w_x ∷ s_OpenParen ∷ s_CloseParen ∷ []) ≡ Err (LeftOut, w_int ∷ w_x ∷ s_OpenParen ∷ s_CloseParen ∷ [])
+signal_with_a_result : file (s_Class ∷ w_c ∷ s_OpenBrace ∷ s_Signal ∷ w_int ∷ w_x ∷ s_OpenParen ∷ s_CloseParen ∷ []) ≡ Err (LeftOut Here, w_int ∷ w_x ∷ s_OpenParen ∷ s_CloseParen ∷ [])
 unfolding reader run walk forms code_grammar.forms
 signal_with_a_result = refl
 
 -- `class c { signal void x ( | owned int`
-signal_of_owned : file (s_Class ∷ w_c ∷ s_OpenBrace ∷ s_Signal ∷ s_Void ∷ w_x ∷ s_OpenParen ∷ s_Owned ∷ w_int ∷ []) ≡ Err (LeftOut, s_Owned ∷ w_int ∷ [])
+signal_of_owned : file (s_Class ∷ w_c ∷ s_OpenBrace ∷ s_Signal ∷ s_Void ∷ w_x ∷ s_OpenParen ∷ s_Owned ∷ w_int ∷ []) ≡ Err (LeftOut Here, s_Owned ∷ w_int ∷ [])
 unfolding reader run walk forms code_grammar.forms
 signal_of_owned = refl
 

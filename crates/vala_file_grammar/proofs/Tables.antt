@@ -3,11 +3,12 @@ use Rattle.std.proofs.Common.{false, []}
 use Rattle.predictive_grammar.specs.Fit.{Fit}
 use Rattle.predictive_grammar.proofs.Fits.{Tabled, Nones, never, only, Among}
 use Rattle.vala_grammar.proofs.Tables as code
+use Rattle.vala_file_grammar.specs.Kinds.{Base}
 use Rattle.vala_file_grammar.specs.Parts.{FilePart, file_tree_of, Code, File, Usings, FileMembers, TypeEnd, Bases, ThrowsOf}
 use Rattle.vala_file_grammar.specs.Embed.{F}
 use Rattle.vala_file_grammar.specs.Grammar.{forms}
 use Rattle.vala_file_grammar.specs.Tables.{tables, plain_type}
-use Rattle.vala_file_grammar.proofs.Finite.{finite, sample, is_sample}
+use Rattle.vala_file_grammar.proofs.Finite.{checks, shape, sample, is_sample}
 
 abbrev pub nones : (p : FilePart) → Nones (file_tree_of p)
 nones (Code p) = code.nones p
@@ -25,7 +26,7 @@ means File a e = e
 means _ a e = e
 
 abbrev pub tabled : Tabled
-tabled = record { signature = F; forms = forms; tables = tables; finite = finite; sample = sample; is_sample = is_sample; nones = nones; means = means }
+tabled = record { signature = F; forms = forms; tables = tables; checks = checks; Sample = Base; shape = shape; sample = sample; is_sample = is_sample; nones = nones; means = means }
 
 -- the part's form fits its tables
 abbrev pub FitsAs : FilePart → Type 1

@@ -53,8 +53,8 @@ pub data FilePart : Type 0 where
   AttributeBody : Lexeme → FilePart
   AttributeArguments : List AttributeArgument → FilePart
   MoreAttributeArguments : List AttributeArgument → FilePart
-  -- a declaration without what stands in front, which may be `async`; what follows the words that begin it
-  DeclarationOf : Place → Bool → FilePart
+  -- a declaration without what stands in front, which are these modifiers; what follows the words that begin it
+  DeclarationOf : Place → List Modifier → FilePart
   NamespaceOf : Lexeme → FilePart
   ClassOf : Bool → Lexeme → FilePart
   StructOf : Lexeme → FilePart
@@ -62,12 +62,13 @@ pub data FilePart : Type 0 where
   ErrorsOf : Lexeme → FilePart
   DelegateOf : Lexeme → FilePart
   ConstantOf : Lexeme → FilePart
-  DestructorOf : Lexeme → FilePart
+  -- of the class or interface whose name ends with this word
+  DestructorOf : List ℕ → Lexeme → FilePart
   SignalOf : Lexeme → FilePart
-  -- what follows a type's name; the name of a declaration of this type; what follows that
+  -- what follows a type's name; the name of a declaration of this type behind these modifiers; what follows that
   TypeEnd : TypeName → FilePart
-  NamedBy : Place → Bool → TypeTree → FilePart
-  Typed : Place → Bool → TypeTree → Lexeme → FilePart
+  NamedBy : Place → List Modifier → TypeTree → FilePart
+  Typed : Place → List Modifier → TypeTree → Lexeme → FilePart
   -- what follows the name of a creation method
   CreationOf : NameTree → FilePart
   -- the bases of a class; the types of `throws`; a type behind these
@@ -144,7 +145,7 @@ file_tree_of (EnumOf _) = Declared
 file_tree_of (ErrorsOf _) = Declared
 file_tree_of (DelegateOf _) = Declared
 file_tree_of (ConstantOf _) = Declared
-file_tree_of (DestructorOf _) = Declared
+file_tree_of (DestructorOf _ _) = Declared
 file_tree_of (SignalOf _) = Declared
 file_tree_of (NamedBy _ _ _) = Declared
 file_tree_of (Typed _ _ _ _) = Declared

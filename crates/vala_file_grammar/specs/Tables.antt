@@ -11,7 +11,8 @@ use Rattle.vala_file_grammar.specs.declared.kind.Special.TheVariants as special
 use Rattle.vala_file_grammar.specs.Kinds.{Kind, sort_in, sorted, one_of, word}
 use Rattle.vala_file_grammar.specs.Parts.{Place, Outside, Inside, Owner, Plain, Bodied, Accessing, FilePart, file_tree_of, Code, File, Usings, MoreUsings, FileMembers, Members, MemberOf, Attributes, Modifiers, MoreModifiers, AttributeOf, AttributeBody, AttributeArguments, MoreAttributeArguments, DeclarationOf, NamespaceOf, ClassOf, StructOf, EnumOf, ErrorsOf, DelegateOf, ConstantOf, DestructorOf, SignalOf, TypeEnd, NamedBy, Typed, CreationOf, Bases, ThrowsOf, TypeList, Fields, FieldOf, MoreField, EnumItems, MoreEnumItems, EnumItem, ErrorCodes, MoreErrorCodes, NextErrorCode, Parameters, MoreParameters, ParameterOf, ParameterType, ParameterName, BodyOf, Accessors, AccessorOf, AccessorWords}
 use Rattle.vala_file_grammar.specs.Embed.{F}
-use Rattle.vala_file_grammar.specs.Grammar.{is_modifier, begins_type, begins_declaration, begins_member, is_left_out}
+use Rattle.vala_file_grammar.specs.Heads.{is_modifier}
+use Rattle.vala_file_grammar.specs.Grammar.{begins_type, begins_declaration, begins_member, is_left_out}
 
 -- ---- what begins a part
 
@@ -62,7 +63,7 @@ first_of (EnumOf _) x = sorted s.Identifier x
 first_of (ErrorsOf _) x = sorted s.Identifier x
 first_of (DelegateOf _) x = begins_type x
 first_of (ConstantOf _) x = begins_type x
-first_of (DestructorOf _) x = sorted s.Identifier x
+first_of (DestructorOf _ _) x = sorted s.Identifier x
 first_of (SignalOf _) x = begins_type x
 first_of (TypeEnd n) x = begins_type_end n x
 first_of (NamedBy _ _ _) x = begins_named x
@@ -94,9 +95,9 @@ first_of (AccessorWords _) x = begins_accessor_words x
 abbrev pub opens_of : FilePart → Kind → Bool
 opens_of (Code p) x = code_tables.opens_of p (sort_in x)
 opens_of (MemberOf y) x = begins_member y x
-opens_of (Modifiers y _ _) x = is_modifier x || begins_declaration y x
+opens_of (Modifiers y _ []) x = is_modifier x || begins_declaration y x
 opens_of AttributeOf x = sorted s.OpenBracket x
-opens_of (DeclarationOf y _) x = begins_declaration y x
+opens_of (DeclarationOf y []) x = begins_declaration y x
 opens_of _ x = false
 
 -- ---- the trees without tokens

@@ -1,5 +1,5 @@
 -- Nodes of the tree from their parts: what each stands on, and what its tokens say.
-use Rattle.std.specs.Prelude.{ℕ, Bool, true, false, if◌then◌else◌, List, [], ◌∷◌, Option, Some, None}
+use Rattle.std.specs.Prelude.{ℕ, Bool, true, false, List, [], ◌∷◌, Option, Some, None}
 use Rattle.vg_base.specs.declared.event.Span.{Span}
 use Rattle.vala_lexer.specs.declared.token.TokenKind.{TokenKind}
 use Rattle.vala_lexer.specs.declared.token.TokenKind.TheVariants as k
@@ -78,15 +78,6 @@ modifier_word _ = w.Inline
 
 abbrev pub modifier : Lexeme → Modifier
 modifier t = record { word = modifier_word t.kind; span = t.span }
-
-abbrev pub is_async_word : ModifierWord → Bool
-is_async_word w.Async = true
-is_async_word _ = false
-
--- `async` is one of them
-abbrev pub is_async : List Modifier → Bool
-is_async [] = false
-is_async (m ∷ ms) = if is_async_word m.word then true else is_async ms
 
 -- where a declaration begins: at its first attribute, else at its first modifier, else at its first token
 abbrev pub beginning : List Attribute → List Modifier → Span → Span

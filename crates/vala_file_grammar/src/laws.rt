@@ -1,6 +1,6 @@
 // The laws of the readers. The bodies do nothing: the clauses are theorems.
 
-ghost use Rattle.vala_file_grammar.specs.Heads.{HasOneList};
+ghost use Rattle.vala_file_grammar.specs.FileAnswer.{HasAnswer, HasOneAnswer};
 ghost use Rattle.vala_file_grammar.specs.Read.{HasOneTree, ReadsCode, ReadsExactly};
 
 /// The reader of each part answers what the grammar says: the tree as far as a text goes, or the first fault.
@@ -18,7 +18,12 @@ pub fn code_is_read_as_before()
     ensures { ReadsCode }
 {}
 
-/// The faults of the words in front of declarations are one list.
-pub fn heads_have_one_list()
-    ensures { HasOneList }
+/// The bytes of each file have an answer: a tree or a refusal.
+pub fn files_have_an_answer()
+    ensures { HasAnswer }
+{}
+
+/// They have no other.
+pub fn files_have_one_answer()
+    ensures { HasOneAnswer }
 {}

@@ -6,7 +6,8 @@ mod laws;
 #[cfg(test)]
 mod tests;
 
-pub use kind::Special;
+pub use kind::{Special, is_c_identifier, letters, same_letters, special_of};
 pub use laws::{
-    code_is_read_as_before, files_are_read_exactly, files_have_one_tree, heads_have_one_list,
+    code_is_read_as_before, files_are_read_exactly, files_have_an_answer, files_have_one_answer,
+    files_have_one_tree,
 };

@@ -1,7 +1,7 @@
 -- Brackets, and the types behind `is` and `as`, fit.
 use Rattle.std.proofs.Common.{◌≡◌, ℕ, Bool, true, false, not, ◌&&◌, refl, if◌then◌else◌, ◌||◌, [], ◌∷◌, Option, Some, None}
 use Rattle.vg_base.specs.declared.event.Span.{Span}
-use Rattle.predictive_grammar.specs.Forms.{Form, give, pick, bar}
+use Rattle.predictive_grammar.specs.Forms.{Form, give, pick}
 use Rattle.predictive_grammar.proofs.Sets.{is_within}
 use Rattle.predictive_grammar.proofs.Fits.{Fits, never, only, maybe, done, token, text, choice, barred, widen, fit_part}
 use Rattle.vala_lexer.specs.Tokens.{Lexeme}
@@ -22,7 +22,7 @@ use Rattle.vala_grammar.specs.declared.parts.Signs.TheVariants as signs
 use Rattle.vala_grammar.specs.Tests.{is, among, begins_prefix, is_type_sign}
 use Rattle.vala_grammar.specs.Trees as tree
 use Rattle.vala_grammar.specs.Parts.{Unary, TestedType, TestedBody, Bracket, BehindNames, LambdaMore, Suffix}
-use Rattle.vala_grammar.specs.Grammar.{tested, opened, G, inner, deeper, where_one, where_inner, operand_here, just, question_behind, tested_array, tested_name, bracketed_end, cast_of, lambda_of, names_end, names_in_bracket, bracket_of, forms}
+use Rattle.vala_grammar.specs.Grammar.{tested, opened, G, inner, deeper, where_one, where_inner, left_out, operand_here, just, question_behind, tested_array, tested_name, bracketed_end, cast_of, lambda_of, names_end, names_in_bracket, bracket_of, forms}
 use Rattle.vala_grammar.specs.Tables.{tables, ends, begins_whole, behind_bracket, behind_opening}
 use Rattle.vala_grammar.proofs.Finite.{finite}
 use Rattle.vala_grammar.proofs.Tables.{tabled, FitsAs}
@@ -52,7 +52,7 @@ fit_tested_array d o n q c = fit_question d o (tree.array_type o n q c None) (λ
 
 fit_tested_name : (d : ℕ) (o : Option Lexeme) (n : TypeName) → Fits tabled (TestedBody d o) true (among (s.Question ∷ s.Star ∷ [])) maybe (tested_name d o n)
 fit_tested_name d o (type_name.Single n) = widen tabled (fit_question d o (tree.single_type o n None) (λ q. tree.single_type o n (Some q))
-    (λ q. where_one s.OpenBracket (λ b. bar (is s.Comma) (inner s.CloseBracket (λ c. tested_array d o n (Some q) c.span))) (operand_here (tested last.Plain (tree.single_type o n (Some q)))))
+    (λ q. where_one s.OpenBracket (λ b. left_out (is s.Comma) (inner s.CloseBracket (λ c. tested_array d o n (Some q) c.span))) (operand_here (tested last.Plain (tree.single_type o n (Some q)))))
     (λ q. widen tabled (where_fits s.OpenBracket refl (λ b. barred (token s.CloseBracket refl (λ c. fit_tested_array d o n (Some q) c.span)) refl tt) (barred (barred (done _) refl refl) refl refl) refl refl) refl (λ a i. i)))
     refl (λ a i. tt)
 fit_tested_name d o (type_name.Array n c) = widen tabled (fit_tested_array d o n None c) refl (λ a i. tt)

@@ -90,7 +90,7 @@ pub choice_follows : (l : Last) → is_within finite (goes_colon 11 13 l) (ends 
 choice_follows last.Plain = refl
 choice_follows _ = refl
 
-choice_ends : (l : Last) (a : Expr) → Each (choice_nones l a) (λ x. is_within finite behind_expression (ends 11 l))
+choice_ends : (l : Last) (a : Expr) → Each (choice_nones l a) (λ x. is_within finite behind_expression (ends 11 l) ≡ true)
 choice_ends last.Plain a = refl
 choice_ends last.Names a = refl
 choice_ends last.Integer a = refl
@@ -102,7 +102,7 @@ pub onward_follows : (l : Last) → is_within finite (either (goes 10 11 l) (goe
 onward_follows last.Plain = refl
 onward_follows _ = refl
 
-onward_ends : (l : Last) (a : Expr) → Each (choice_nones l a) (λ x. is_within finite behind_expression (ends 10 l))
+onward_ends : (l : Last) (a : Expr) → Each (choice_nones l a) (λ x. is_within finite behind_expression (ends 10 l) ≡ true)
 onward_ends last.Plain a = refl
 onward_ends last.Names a = refl
 onward_ends last.Integer a = refl
@@ -137,7 +137,7 @@ test_follows : (l : Last) → is_within finite (goes_colon 11 12 l) (ends 11 l) 
 test_follows last.Plain = refl
 test_follows _ = refl
 
-test_ends : (l : Last) (a : Expr) → Each (choice_nones l a) (λ x. is_within finite (ends 12 last.Plain) (ends 11 l))
+test_ends : (l : Last) (a : Expr) → Each (choice_nones l a) (λ x. is_within finite (ends 12 last.Plain) (ends 11 l) ≡ true)
 test_ends last.Plain a = refl
 test_ends last.Names a = refl
 test_ends last.Integer a = refl
@@ -149,7 +149,7 @@ test_goes : (l : Last) → is_within finite (either (goes 10 11 l) (goes_colon 1
 test_goes last.Plain = refl
 test_goes _ = refl
 
-test_ends_tiers : (l : Last) (a : Expr) → Each (choice_nones l a) (λ x. is_within finite (ends 12 last.Plain) (ends 10 l))
+test_ends_tiers : (l : Last) (a : Expr) → Each (choice_nones l a) (λ x. is_within finite (ends 12 last.Plain) (ends 10 l) ≡ true)
 test_ends_tiers last.Plain a = refl
 test_ends_tiers last.Names a = refl
 test_ends_tiers last.Integer a = refl
@@ -161,7 +161,7 @@ test_begins : (l : Last) → is_within finite (either (goes 0 10 l) (either (goe
 test_begins last.Plain = refl
 test_begins _ = refl
 
-test_ends_operand : (l : Last) (a : Expr) → Each (choice_nones l a) (λ x. is_within finite (ends 12 last.Plain) (ends 0 l))
+test_ends_operand : (l : Last) (a : Expr) → Each (choice_nones l a) (λ x. is_within finite (ends 12 last.Plain) (ends 0 l) ≡ true)
 test_ends_operand last.Plain a = refl
 test_ends_operand last.Names a = refl
 test_ends_operand last.Integer a = refl
@@ -194,7 +194,7 @@ pub operand_follows : (l : Last) → is_within finite (goes_colon 0 13 l) (ends 
 operand_follows last.Plain = refl
 operand_follows _ = refl
 
-pub operand_ends : {A : Type 0} (f : Expr → A) (l : Last) (a : Expr) → Each (chain_nones f l a) (λ x. is_within finite behind_expression (ends 0 l))
+pub operand_ends : {A : Type 0} (f : Expr → A) (l : Last) (a : Expr) → Each (chain_nones f l a) (λ x. is_within finite behind_expression (ends 0 l) ≡ true)
 operand_ends f last.Plain a = refl
 operand_ends f last.Names a = refl
 operand_ends f last.Integer a = refl

@@ -86,7 +86,7 @@ after_names_statement n v last.Unmarked = widen tabled (text refl (λ f. text re
 after_names_statement n v last.Alone = widen tabled (where_fits s.Assign refl (λ t. text refl (λ a. done _) (λ a. refl) (λ a. refl)) (done _) refl refl) refl (λ a i. i)
 after_names_statement n v (last.Asked b) = widen tabled (text refl (λ f. text refl (λ a. done _) (λ a. refl) (λ a. refl)) (λ f. refl) (λ f. refl)) refl (λ a i. i)
 
-names_end_coalesce_statement : (n : NameTree) (l : Last) (v : Expr) → Each (names_none n l v) (λ a. is_within finite (behind_opening context.Statement a) (ends 11 l))
+names_end_coalesce_statement : (n : NameTree) (l : Last) (v : Expr) → Each (names_none n l v) (λ a. is_within finite (behind_opening context.Statement a) (ends 11 l) ≡ true)
 names_end_coalesce_statement n last.Plain v = refl
 names_end_coalesce_statement n last.Names v = refl
 names_end_coalesce_statement n last.Integer v = refl
@@ -94,7 +94,7 @@ names_end_coalesce_statement n last.Unmarked v = refl
 names_end_coalesce_statement n last.Alone v = refl
 names_end_coalesce_statement n (last.Asked b) v = tt
 
-names_end_tiers_statement : (n : NameTree) (l : Last) (v : Expr) → Each (names_none n l v) (λ a. is_within finite (behind_opening context.Statement a) (ends 10 l))
+names_end_tiers_statement : (n : NameTree) (l : Last) (v : Expr) → Each (names_none n l v) (λ a. is_within finite (behind_opening context.Statement a) (ends 10 l) ≡ true)
 names_end_tiers_statement n last.Plain v = refl
 names_end_tiers_statement n last.Names v = refl
 names_end_tiers_statement n last.Integer v = refl
@@ -117,7 +117,7 @@ leads_statement (lead.Names n) = where_fits s.Question refl (λ q. text refl (λ
 leads_statement (lead.Array n c) = widen tabled (where_fits s.Question refl (λ q. done _) (done _) refl refl) refl (λ a i. i)
 leads_statement (lead.Value c) = just_onward true (λ e. opening.Value e) c.value c.last refl (λ a. refl)
 
-value_ends_statement : (l : Last) (v : Expr) → Each (chain_nones (λ a. opening.Value a) l v) (λ a. is_within finite (behind_opening context.Statement a) (ends 0 l))
+value_ends_statement : (l : Last) (v : Expr) → Each (chain_nones (λ a. opening.Value a) l v) (λ a. is_within finite (behind_opening context.Statement a) (ends 0 l) ≡ true)
 value_ends_statement last.Plain v = refl
 value_ends_statement last.Names v = refl
 value_ends_statement last.Integer v = refl
@@ -125,7 +125,7 @@ value_ends_statement last.Unmarked v = refl
 value_ends_statement last.Alone v = refl
 value_ends_statement (last.Asked b) v = tt
 
-lead_ends_statement : (r : Lead) → Each (leads_none r) (λ a. is_within finite (behind_opening context.Statement a) (behind_lead r))
+lead_ends_statement : (r : Lead) → Each (leads_none r) (λ a. is_within finite (behind_opening context.Statement a) (behind_lead r) ≡ true)
 lead_ends_statement (lead.Names n) = refl
 lead_ends_statement (lead.Array n c) = refl
 lead_ends_statement (lead.Value c) = value_ends_statement c.last c.value
@@ -144,7 +144,7 @@ after_names_bracket n v last.Unmarked = widen tabled (text refl (λ f. text refl
 after_names_bracket n v last.Alone = widen tabled (where_fits s.Assign refl (λ t. text refl (λ a. done _) (λ a. refl) (λ a. refl)) (done _) refl refl) refl (λ a i. i)
 after_names_bracket n v (last.Asked b) = widen tabled (text refl (λ f. text refl (λ a. done _) (λ a. refl) (λ a. refl)) (λ f. refl) (λ f. refl)) refl (λ a i. i)
 
-names_end_coalesce_bracket : (n : NameTree) (l : Last) (v : Expr) → Each (names_none n l v) (λ a. is_within finite (behind_opening context.Bracket a) (ends 11 l))
+names_end_coalesce_bracket : (n : NameTree) (l : Last) (v : Expr) → Each (names_none n l v) (λ a. is_within finite (behind_opening context.Bracket a) (ends 11 l) ≡ true)
 names_end_coalesce_bracket n last.Plain v = refl
 names_end_coalesce_bracket n last.Names v = refl
 names_end_coalesce_bracket n last.Integer v = refl
@@ -152,7 +152,7 @@ names_end_coalesce_bracket n last.Unmarked v = refl
 names_end_coalesce_bracket n last.Alone v = refl
 names_end_coalesce_bracket n (last.Asked b) v = tt
 
-names_end_tiers_bracket : (n : NameTree) (l : Last) (v : Expr) → Each (names_none n l v) (λ a. is_within finite (behind_opening context.Bracket a) (ends 10 l))
+names_end_tiers_bracket : (n : NameTree) (l : Last) (v : Expr) → Each (names_none n l v) (λ a. is_within finite (behind_opening context.Bracket a) (ends 10 l) ≡ true)
 names_end_tiers_bracket n last.Plain v = refl
 names_end_tiers_bracket n last.Names v = refl
 names_end_tiers_bracket n last.Integer v = refl
@@ -175,7 +175,7 @@ leads_bracket (lead.Names n) = where_fits s.Question refl (λ q. text refl (λ r
 leads_bracket (lead.Array n c) = widen tabled (where_fits s.Question refl (λ q. done _) (done _) refl refl) refl (λ a i. i)
 leads_bracket (lead.Value c) = just_onward true (λ e. opening.Value e) c.value c.last refl (λ a. refl)
 
-value_ends_bracket : (l : Last) (v : Expr) → Each (chain_nones (λ a. opening.Value a) l v) (λ a. is_within finite (behind_opening context.Bracket a) (ends 0 l))
+value_ends_bracket : (l : Last) (v : Expr) → Each (chain_nones (λ a. opening.Value a) l v) (λ a. is_within finite (behind_opening context.Bracket a) (ends 0 l) ≡ true)
 value_ends_bracket last.Plain v = refl
 value_ends_bracket last.Names v = refl
 value_ends_bracket last.Integer v = refl
@@ -183,7 +183,7 @@ value_ends_bracket last.Unmarked v = refl
 value_ends_bracket last.Alone v = refl
 value_ends_bracket (last.Asked b) v = tt
 
-lead_ends_bracket : (r : Lead) → Each (leads_none r) (λ a. is_within finite (behind_opening context.Bracket a) (behind_lead r))
+lead_ends_bracket : (r : Lead) → Each (leads_none r) (λ a. is_within finite (behind_opening context.Bracket a) (behind_lead r) ≡ true)
 lead_ends_bracket (lead.Names n) = refl
 lead_ends_bracket (lead.Array n c) = refl
 lead_ends_bracket (lead.Value c) = value_ends_bracket c.last c.value

@@ -169,7 +169,7 @@ immediate_follows : (r : Bracketed) → is_within finite (immediate_first r) (be
 immediate_follows (bracketed.Lambda a) = refl
 immediate_follows (bracketed.Operand c) = operand_follows c.last
 
-immediate_ends : (r : Bracketed) → Each (immediate_none r) (λ x. is_within finite behind_expression (behind_bracket true r))
+immediate_ends : (r : Bracketed) → Each (immediate_none r) (λ x. is_within finite behind_expression (behind_bracket true r) ≡ true)
 immediate_ends (bracketed.Lambda a) = refl
 immediate_ends (bracketed.Operand c) = operand_ends as_it_is c.last c.value
 

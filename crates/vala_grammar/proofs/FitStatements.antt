@@ -259,7 +259,7 @@ begins_follows (opening.Type y) = refl
 begins_follows (opening.Names n) = refl
 begins_follows (opening.Value e) = refl
 
-begins_ends : (r : Opening) → Each (begins_none r) (λ a. is_within finite (behind_beginning a) (behind_opening context.Statement r))
+begins_ends : (r : Opening) → Each (begins_none r) (λ a. is_within finite (behind_beginning a) (behind_opening context.Statement r) ≡ true)
 begins_ends (opening.Type y) = tt
 begins_ends (opening.Names n) = refl
 begins_ends (opening.Value e) = refl

@@ -12,6 +12,7 @@ use Rattle.vala_grammar.specs.declared.parts.Last.TheVariants as last
 use Rattle.vala_grammar.specs.declared.parts.Ended.{Ended}
 use Rattle.vala_grammar.specs.Trees as tree
 use Rattle.vala_grammar.specs.Parts.{Whole, AnyStmt}
+use Rattle.vala_grammar.specs.Label.{Label, Here}
 use Rattle.vala_grammar.specs.Grammar.{G, forms}
 use Rattle.vala_grammar.specs.Tables.{tables}
 use Rattle.vala_grammar.specs.Read.{vala_reader}
@@ -20,10 +21,10 @@ use Rattle.vala_grammar.proofs.Finite.{sample}
 abbrev word : List ℕ → Lexeme
 word x = record { kind = k.Identifier; text = x; span = record { file = 0; start = 0; «end» = 0 } }
 
-abbrev expression : List Lexeme → Outcome Lexeme Expr
+abbrev expression : List Lexeme → Outcome Label Lexeme Expr
 expression i = vala_reader Whole 0 i
 
-abbrev statement : List Lexeme → Outcome Lexeme Ended
+abbrev statement : List Lexeme → Outcome Label Lexeme Ended
 statement i = vala_reader AnyStmt 0 i
 
 abbrev a : Lexeme
@@ -199,53 +200,53 @@ unfolding reader run walk forms
 yield_alone = refl
 
 -- `a = / b`
-slash_for_an_operand : expression (a ∷ s_Assign ∷ s_Slash ∷ b ∷ []) ≡ Err (LeftOut, s_Slash ∷ b ∷ [])
+slash_for_an_operand : expression (a ∷ s_Assign ∷ s_Slash ∷ b ∷ []) ≡ Err (LeftOut Here, s_Slash ∷ b ∷ [])
 unfolding reader run walk forms
 slash_for_an_operand = refl
 
 -- `/ a ;`
-slash_for_an_expression : statement (s_Slash ∷ a ∷ s_Semicolon ∷ []) ≡ Err (LeftOut, s_Slash ∷ a ∷ s_Semicolon ∷ [])
+slash_for_an_expression : statement (s_Slash ∷ a ∷ s_Semicolon ∷ []) ≡ Err (LeftOut Here, s_Slash ∷ a ∷ s_Semicolon ∷ [])
 unfolding reader run walk forms
 slash_for_an_expression = refl
 
 -- `a [ b : c ]`
-range_in_an_index : expression (a ∷ s_OpenBracket ∷ b ∷ s_Colon ∷ c ∷ s_CloseBracket ∷ []) ≡ Err (LeftOut, s_Colon ∷ c ∷ s_CloseBracket ∷ [])
+range_in_an_index : expression (a ∷ s_OpenBracket ∷ b ∷ s_Colon ∷ c ∷ s_CloseBracket ∷ []) ≡ Err (LeftOut Here, s_Colon ∷ c ∷ s_CloseBracket ∷ [])
 unfolding reader run walk forms
 range_in_an_index = refl
 
 -- `( a [ , ] )`
-two_indices : expression (s_OpenParen ∷ a ∷ s_OpenBracket ∷ s_Comma ∷ s_CloseBracket ∷ s_CloseParen ∷ []) ≡ Err (LeftOut, s_Comma ∷ s_CloseBracket ∷ s_CloseParen ∷ [])
+two_indices : expression (s_OpenParen ∷ a ∷ s_OpenBracket ∷ s_Comma ∷ s_CloseBracket ∷ s_CloseParen ∷ []) ≡ Err (LeftOut Here, s_Comma ∷ s_CloseBracket ∷ s_CloseParen ∷ [])
 unfolding reader run walk forms
 two_indices = refl
 
 -- `new t ( ) {`
-braces_behind_a_creation : expression (s_New ∷ t ∷ s_OpenParen ∷ s_CloseParen ∷ s_OpenBrace ∷ []) ≡ Err (LeftOut, s_OpenBrace ∷ [])
+braces_behind_a_creation : expression (s_New ∷ t ∷ s_OpenParen ∷ s_CloseParen ∷ s_OpenBrace ∷ []) ≡ Err (LeftOut Here, s_OpenBrace ∷ [])
 unfolding reader run walk forms
 braces_behind_a_creation = refl
 
 -- `owned a * b ;`
-pointer_in_a_declaration : statement (s_Owned ∷ a ∷ s_Star ∷ b ∷ s_Semicolon ∷ []) ≡ Err (LeftOut, s_Star ∷ b ∷ s_Semicolon ∷ [])
+pointer_in_a_declaration : statement (s_Owned ∷ a ∷ s_Star ∷ b ∷ s_Semicolon ∷ []) ≡ Err (LeftOut Here, s_Star ∷ b ∷ s_Semicolon ∷ [])
 unfolding reader run walk forms
 pointer_in_a_declaration = refl
 
 -- `( owned a < b`
-generic_in_a_cast : expression (s_OpenParen ∷ s_Owned ∷ a ∷ s_Less ∷ b ∷ []) ≡ Err (LeftOut, s_Less ∷ b ∷ [])
+generic_in_a_cast : expression (s_OpenParen ∷ s_Owned ∷ a ∷ s_Less ∷ b ∷ []) ≡ Err (LeftOut Here, s_Less ∷ b ∷ [])
 unfolding reader run walk forms
 generic_in_a_cast = refl
 
 -- `x is t *`
-pointer_behind_a_test : expression (x ∷ s_TypeTest ∷ t ∷ s_Star ∷ []) ≡ Err (LeftOut, s_Star ∷ [])
+pointer_behind_a_test : expression (x ∷ s_TypeTest ∷ t ∷ s_Star ∷ []) ≡ Err (LeftOut Here, s_Star ∷ [])
 unfolding reader run walk forms
 pointer_behind_a_test = refl
 
 -- `new t < a`
-generic_creation : expression (s_New ∷ t ∷ s_Less ∷ a ∷ []) ≡ Err (LeftOut, s_Less ∷ a ∷ [])
+generic_creation : expression (s_New ∷ t ∷ s_Less ∷ a ∷ []) ≡ Err (LeftOut Here, s_Less ∷ a ∷ [])
 unfolding reader run walk forms
 generic_creation = refl
 
 -- ---- levels and numbers, with low limits
 
-abbrev shallow : List Lexeme → Outcome Lexeme Expr
+abbrev shallow : List Lexeme → Outcome Label Lexeme Expr
 shallow i = reader G forms tables.top tables.rank (record { levels = 2; items = 2 }) Whole 0 i
 
 -- `a . b . c . x`

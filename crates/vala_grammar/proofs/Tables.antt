@@ -1,7 +1,9 @@
 -- The tables of the grammar, for the conditions that are computed.
 use Rattle.std.proofs.Common.{false, Some, None}
 use Rattle.predictive_grammar.specs.Fit.{Fit}
+use Rattle.predictive_grammar.proofs.Sets.{by_list}
 use Rattle.predictive_grammar.proofs.Fits.{Tabled, Nones, never, only, Among}
+use Rattle.vala_grammar.specs.declared.sort.Sort.{Sort}
 use Rattle.vala_grammar.specs.declared.parts.Last.{Last}
 use Rattle.vala_grammar.specs.declared.parts.Last.TheVariants as last
 use Rattle.vala_grammar.specs.declared.parts.TypeName.TheVariants as type_name
@@ -51,7 +53,7 @@ means Name e i = i
 means _ e i = i
 
 abbrev pub tabled : Tabled
-tabled = record { signature = G; forms = forms; tables = tables; finite = finite; sample = sample; is_sample = is_sample; nones = nones; means = means }
+tabled = record { signature = G; forms = forms; tables = tables; checks = by_list finite; Sample = Sort; shape = λ x. x; sample = sample; is_sample = is_sample; nones = nones; means = means }
 
 -- the part's form fits its tables
 abbrev pub FitsAs : Part → Type 1

@@ -1,5 +1,5 @@
 -- Each part has a text.
-use Rattle.std.proofs.Common.{ℕ, Bool, true, false, refl, [], ◌∷◌, Some}
+use Rattle.std.proofs.Common.{ℕ, Bool, true, false, refl, [], ◌∷◌, Some, None}
 use Rattle.vg_base.specs.declared.event.Span.{Span}
 use Rattle.predictive_grammar.specs.Forms.{Form}
 use Rattle.predictive_grammar.specs.Follows.{Word, Follows, given, taken, read, first, second, kept, Reads}
@@ -154,59 +154,59 @@ operand = tree.plain (tree.name word)
 
 -- a text of the part with the tree
 abbrev Known : (q : Part) → tree_of q → Type 0
-Known q b = (l : ℕ) → (w : Word G) × Reads G forms false q l w b
+Known q b = (l : ℕ) → (w : Word G) × Reads G forms None q l w b
 
 suffix_text : (a : Expr) → Known (Suffix (tree.plain a)) (tree.plain a)
 unfolding forms
 suffix_text a l = ([], second (second (second (second (given (tree.plain a))))))
 
-rest_text : (d : ℕ) (t : Tier) (a : Expr) (l : ℕ) → Reads G forms false (Rest d t (tree.plain a)) l [] (tree.plain a)
+rest_text : (d : ℕ) (t : Tier) (a : Expr) (l : ℕ) → Reads G forms None (Rest d t (tree.plain a)) l [] (tree.plain a)
 unfolding forms
 rest_text d tier.Relation a l = second (second (given (tree.plain a)))
 rest_text d tier.Product a l = second (given (tree.plain a))
 rest_text d _ a l = second (given (tree.plain a))
 
 module _ (d : ℕ) (a : Expr) where
-  step_text : (t u : Tier) → ((l : ℕ) → Reads G forms false (Upto d u (tree.plain a)) l [] (tree.plain a)) → (l : ℕ) → Follows G forms false (Upto d t (tree.plain a)) (upto_of d t (tree.plain a) (Some u)) l [] (tree.plain a)
+  step_text : (t u : Tier) → ((l : ℕ) → Reads G forms None (Upto d u (tree.plain a)) l [] (tree.plain a)) → (l : ℕ) → Follows G forms None (Upto d t (tree.plain a)) (upto_of d t (tree.plain a) (Some u)) l [] (tree.plain a)
   step_text t u inner l = read (inner l) (read (rest_text d t a l) (given (tree.plain a)))
 
-  product_text : (l : ℕ) → Reads G forms false (Upto d tier.Product (tree.plain a)) l [] (tree.plain a)
+  product_text : (l : ℕ) → Reads G forms None (Upto d tier.Product (tree.plain a)) l [] (tree.plain a)
   unfolding forms
   product_text l = read (rest_text d tier.Product a l) (given (tree.plain a))
 
-  sum_text : (l : ℕ) → Reads G forms false (Upto d tier.Sum (tree.plain a)) l [] (tree.plain a)
+  sum_text : (l : ℕ) → Reads G forms None (Upto d tier.Sum (tree.plain a)) l [] (tree.plain a)
   unfolding forms
   sum_text l = step_text tier.Sum tier.Product product_text l
 
-  shift_text : (l : ℕ) → Reads G forms false (Upto d tier.Shift (tree.plain a)) l [] (tree.plain a)
+  shift_text : (l : ℕ) → Reads G forms None (Upto d tier.Shift (tree.plain a)) l [] (tree.plain a)
   unfolding forms
   shift_text l = step_text tier.Shift tier.Sum sum_text l
 
-  relation_text : (l : ℕ) → Reads G forms false (Upto d tier.Relation (tree.plain a)) l [] (tree.plain a)
+  relation_text : (l : ℕ) → Reads G forms None (Upto d tier.Relation (tree.plain a)) l [] (tree.plain a)
   unfolding forms
   relation_text l = step_text tier.Relation tier.Shift shift_text l
 
-  equality_text : (l : ℕ) → Reads G forms false (Upto d tier.Equality (tree.plain a)) l [] (tree.plain a)
+  equality_text : (l : ℕ) → Reads G forms None (Upto d tier.Equality (tree.plain a)) l [] (tree.plain a)
   unfolding forms
   equality_text l = step_text tier.Equality tier.Relation relation_text l
 
-  bitand_text : (l : ℕ) → Reads G forms false (Upto d tier.BitAnd (tree.plain a)) l [] (tree.plain a)
+  bitand_text : (l : ℕ) → Reads G forms None (Upto d tier.BitAnd (tree.plain a)) l [] (tree.plain a)
   unfolding forms
   bitand_text l = step_text tier.BitAnd tier.Equality equality_text l
 
-  bitxor_text : (l : ℕ) → Reads G forms false (Upto d tier.BitXor (tree.plain a)) l [] (tree.plain a)
+  bitxor_text : (l : ℕ) → Reads G forms None (Upto d tier.BitXor (tree.plain a)) l [] (tree.plain a)
   unfolding forms
   bitxor_text l = step_text tier.BitXor tier.BitAnd bitand_text l
 
-  bitor_text : (l : ℕ) → Reads G forms false (Upto d tier.BitOr (tree.plain a)) l [] (tree.plain a)
+  bitor_text : (l : ℕ) → Reads G forms None (Upto d tier.BitOr (tree.plain a)) l [] (tree.plain a)
   unfolding forms
   bitor_text l = step_text tier.BitOr tier.BitXor bitxor_text l
 
-  and_text : (l : ℕ) → Reads G forms false (Upto d tier.And (tree.plain a)) l [] (tree.plain a)
+  and_text : (l : ℕ) → Reads G forms None (Upto d tier.And (tree.plain a)) l [] (tree.plain a)
   unfolding forms
   and_text l = step_text tier.And tier.BitOr bitor_text l
 
-  or_text : (l : ℕ) → Reads G forms false (Upto d tier.Or (tree.plain a)) l [] (tree.plain a)
+  or_text : (l : ℕ) → Reads G forms None (Upto d tier.Or (tree.plain a)) l [] (tree.plain a)
   unfolding forms
   or_text l = step_text tier.Or tier.And and_text l
 
@@ -323,5 +323,5 @@ ways (Locals y) = by_text refl (λ d. by_text refl (λ a. end))
 ways (MoreLocals y ds) = other end
 ways OneLocal = by_token s.Identifier refl (other end)
 
-pub some : (p : Part) (l : ℕ) → (w : Word G) × (a : tree_of p) × Reads G forms false p l w a
+pub some : (p : Part) (l : ℕ) → (w : Word G) × (a : tree_of p) × Reads G forms None p l w a
 some = some_text G forms cost sample is_sample ways

@@ -2,7 +2,7 @@
 use Rattle.std.proofs.Common.{◌≡◌, ℕ, Bool, true, false, ◌&&◌, List, [], ◌∷◌, refl}
 use Rattle.predictive_grammar.specs.Forms.{Form, take, pick}
 use Rattle.predictive_grammar.proofs.Sets.{all, implies, is_within, is_apart}
-use Rattle.predictive_grammar.proofs.Fits.{Fits, either, Nones, Each, avoids, token, choice}
+use Rattle.predictive_grammar.proofs.Fits.{Fits, either, Nones, Each, avoids, where_token}
 use Rattle.vala_lexer.specs.Tokens.{Lexeme}
 use Rattle.vala_grammar.specs.declared.sort.Sort.{Sort}
 use Rattle.vala_grammar.specs.Parts.{Part, tree_of}
@@ -29,6 +29,4 @@ same_set f = self_in f finite.kinds
 pub where_fits : {r : Part} {moved : Bool} {up : ℕ → ℕ} {items : ℕ} {test h : Sort → Bool} {k : Lexeme → Form G r} {b : Form G r} {f : Lexeme → Sort → Bool}
     {y : Lexeme → Nones (tree_of r)} {z : Nones (tree_of r)} (x : Sort) → test x ≡ true → ((t : Lexeme) → Fits tabled r true (f t) (y t) (k t)) → Fits tabled r moved h z b
     → is_apart finite h test ≡ true → Each z (avoids tabled r test) → Fits tabled r moved (either test h) z (pick test (take up items test k) b)
-where_fits {test = test} {h = h} x e rest other apart stops =
-    choice (token x e rest) other
-    (and_both (is_within finite test test) (is_within finite test test && is_apart finite h test) (same_set test) (and_both (is_within finite test test) (is_apart finite h test) (same_set test) apart)) stops
+where_fits x e rest other apart stops = where_token x e rest other apart stops

@@ -44,11 +44,12 @@ use Rattle.vala_grammar.specs.declared.parts.Tier.{Tier}
 use Rattle.vala_grammar.specs.declared.parts.Tier.TheVariants as tier
 use Rattle.vala_grammar.specs.Sorts.{sort}
 use Rattle.vala_grammar.specs.Tests.{is, among, is_ownership, is_type_sign, is_prefix, is_literal, begins_prefix, begins_expression, tighter, is_plain, is_asked, goes_on, is_assignment, opens_choice, is_label}
+use Rattle.vala_grammar.specs.Label as wrong
 use Rattle.vala_grammar.specs.Trees as tree
 use Rattle.vala_grammar.specs.Parts.{Part, tree_of, Name, NameMore, AnyType, TypeBody, NameInType, NameInTypeMore, Whole, Value, Nameless, Immediate, AfterWord, Onward, Test, Prefix, Unary, Direct, Upto, Rest, Operand, CoalesceTail, CoalesceOperand, ChoiceTail, AssignTail, TestedType, TestedBody, Bracket, OpeningName, LeadMore, Marked, CastEnd, BehindNames, LambdaMore, LambdaEnd, Primary, Atom, Suffix, YieldCall, CallMore, NewMore, NewArray, NewItems, Args, MoreArgs, Arg, Init, Items, MoreItems, BlockOf, Statements, AnyStmt, Bare, Simple, Body, Alternative, IfMore, IfTail, DoMore, ForMore, ForHeadOf, ForExprs, ForTest, ForSteps, MoreSteps, ForeachMore, SwitchMore, AnyLabel, Sections, TryMore, CatchOf, Begin, Locals, MoreLocals, OneLocal}
 
 abbrev pub G : Signature
-G = record { Token = Lexeme; Kind = Sort; kind = λ t. sort t.kind; Part = Part; Tree = tree_of }
+G = record { Token = Lexeme; Kind = Sort; kind = λ t. sort t.kind; Part = Part; Tree = tree_of; Label = wrong.Label }
 
 -- ---- levels
 
@@ -86,9 +87,13 @@ where_token test k other = pick test (token test k) other
 abbrev pub where_inner : {r : Part} → Sort → (Lexeme → Form G r) → Form G r → Form G r
 where_inner x k other = pick (is x) (inner x k) other
 
+-- a token of a sort that passes the test would begin here what the profile leaves out
+abbrev pub left_out : {r : Part} → (Sort → Bool) → Form G r → Form G r
+left_out test k = bar test wrong.Here k
+
 -- a `/` where an operand must stand would begin a left-out text
 abbrev pub operand_here : {r : Part} → Form G r → Form G r
-operand_here k = bar (is s.Slash) k
+operand_here k = left_out (is s.Slash) k
 
 -- what reads a part and has its tree
 abbrev pub just : {r : Part} (q : Part) → (tree_of q → tree_of r) → Form G r
@@ -99,7 +104,7 @@ as_it_is a = a
 
 -- `[ ]` and the mark behind it
 abbrev pub array_end : {r : Part} → (Option Span → Span → tree_of r) → Form G r
-array_end f = bar (is s.Comma) (inner s.CloseBracket (λ c. where_one s.Question (λ q. give (f (Some q.span) c.span)) (give (f None c.span))))
+array_end f = left_out (is s.Comma) (inner s.CloseBracket (λ c. where_one s.Question (λ q. give (f (Some q.span) c.span)) (give (f None c.span))))
 
 -- ---- types
 
@@ -141,7 +146,7 @@ choice_of c _ = where_one s.Question (λ q. deeper Whole (λ b. choice_end c.val
 
 -- no `*` follows it
 abbrev pub tested : {d : ℕ} {o : Option Lexeme} → Last → TypeTree → Form G (TestedBody d o)
-tested l y = bar (is s.Star) (give (record { tree = y; last = l }))
+tested l y = left_out (is s.Star) (give (record { tree = y; last = l }))
 
 -- a `?` begins a choice where an expression follows, and else marks the type
 abbrev pub question_behind : (d : ℕ) (o : Option Lexeme) (without : TypeTree) → (Span → Form G (TestedBody d o)) → Form G (TestedBody d o)
@@ -151,12 +156,12 @@ question_behind d o without marked =
     (tested last.Unmarked without)
 
 abbrev pub tested_array : (d : ℕ) (o : Option Lexeme) → NameTree → Option Span → Span → Form G (TestedBody d o)
-tested_array d o n q c = question_behind d o (tree.array_type o n q c None) (λ r. bar (is s.Slash) (tested last.Plain (tree.array_type o n q c (Some r))))
+tested_array d o n q c = question_behind d o (tree.array_type o n q c None) (λ r. left_out (is s.Slash) (tested last.Plain (tree.array_type o n q c (Some r))))
 
 abbrev pub tested_name : (d : ℕ) (o : Option Lexeme) → TypeName → Form G (TestedBody d o)
 tested_name d o (type_name.Single n) =
     question_behind d o (tree.single_type o n None) (λ q.
-    where_one s.OpenBracket (λ b. bar (is s.Comma) (inner s.CloseBracket (λ c. tested_array d o n (Some q) c.span))) (bar (is s.Slash) (tested last.Plain (tree.single_type o n (Some q)))))
+    where_one s.OpenBracket (λ b. left_out (is s.Comma) (inner s.CloseBracket (λ c. tested_array d o n (Some q) c.span))) (left_out (is s.Slash) (tested last.Plain (tree.single_type o n (Some q)))))
 tested_name d o (type_name.Array n c) = tested_array d o n None c
 
 -- ---- what begins with a bracket
@@ -235,7 +240,7 @@ asked_names context.Bracket n q other = pick (opens_choice context.Bracket) (dee
 
 -- an index
 abbrev pub index_of : {r : Part} → Expr → (Chain → tree_of r) → Form G r
-index_of a f = deeper Whole (λ i. bar (is s.Colon) (inner s.CloseBracket (λ c. deeper (Suffix (tree.plain (tree.index a i c))) (λ e. give (f e)))))
+index_of a f = deeper Whole (λ i. left_out (is s.Colon) (inner s.CloseBracket (λ c. deeper (Suffix (tree.plain (tree.index a i c))) (λ e. give (f e)))))
 
 -- the call behind `yield`, and what follows it
 abbrev pub yield_call : {r : Part} → Lexeme → (Chain → Form G r) → Form G r
@@ -288,7 +293,7 @@ label_behind t e done x xs ss y = just (Sections t e (done ++ tree.section x xs 
 
 -- what is declared of a written type
 abbrev pub written : TypeTree → Form G Begin
-written y = bar is_type_sign (just (Locals (declared.Written y, y.span)) as_it_is)
+written y = left_out is_type_sign (just (Locals (declared.Written y, y.span)) as_it_is)
 
 abbrev pub begins : Opening → Form G Begin
 begins (opening.Type y) = written y
@@ -312,7 +317,7 @@ forms (TypeBody o) = where_one s.Void (λ t. give (tree.void_type o t)) (here Na
 forms NameInType = one s.Identifier (λ t. just (NameInTypeMore (tree.one_word t)) as_it_is)
 forms (NameInTypeMore n) =
     where_one s.Dot (λ d. one s.Identifier (λ t. deeper (NameInTypeMore (tree.one_more_word n t)) (λ m. give m)))
-    (where_one s.OpenBracket (λ b. bar (is s.Comma) (inner s.CloseBracket (λ c. give (type_name.Array n c.span)))) (give (type_name.Single n)))
+    (where_one s.OpenBracket (λ b. left_out (is s.Comma) (inner s.CloseBracket (λ c. give (type_name.Array n c.span)))) (give (type_name.Single n)))
 forms Whole = operand_here (just Value as_it_is)
 forms Value = where_one s.Identifier (λ t. just (AfterWord t) as_it_is) (just Nameless as_it_is)
 forms Nameless = where_one s.Yield (λ t. yield_call t (λ c. just (Onward c) as_it_is)) (just Immediate as_it_is)
@@ -344,7 +349,7 @@ forms (Bracket top o) =
 forms (OpeningName x) = one s.Identifier (λ t. here (LeadMore (tree.one_word t)) (λ r. leads x r))
 forms (LeadMore n) =
     where_one s.Dot (λ d. one s.Identifier (λ t. deeper (LeadMore (tree.one_more_word n t)) (λ r. give r)))
-    (where_one s.OpenBracket (λ b. bar (is s.Comma) (where_inner s.CloseBracket (λ c. give (lead.Array n c.span)) (index_of (tree.names n) (λ c. lead.Value c))))
+    (where_one s.OpenBracket (λ b. left_out (is s.Comma) (where_inner s.CloseBracket (λ c. give (lead.Array n c.span)) (index_of (tree.names n) (λ c. lead.Value c))))
     (where_one s.Step (λ t. deeper (Suffix (tree.plain (tree.step (tree.names n) t))) (λ c. give (lead.Value c)))
     (where_one s.OpenParen (λ p. deeper Args (λ xs. deeper (Suffix (tree.plain (tree.call (tree.names n) xs))) (λ c. give (lead.Value c))))
     (give (lead.Names n)))))
@@ -352,7 +357,7 @@ forms (Marked x n q) =
     operand_here
     (where_one s.OpenBracket (λ b. array_end (λ r c. opening.Type (tree.array_type None n (Some q) c r)))
     (asked_names x n q (give (opening.Type (tree.single_type None n (Some q))))))
-forms (CastEnd o y) = bar is_type_sign (inner s.CloseParen (λ c. deeper (Prefix signs.Cast) (λ x. give (tree.cast o y x))))
+forms (CastEnd o y) = left_out is_type_sign (inner s.CloseParen (λ c. deeper (Prefix signs.Cast) (λ x. give (tree.cast o y x))))
 forms (BehindNames top o n c) = behind_names top o n c
 forms (LambdaMore xs) =
     one s.Identifier (λ t. where_one s.Comma (λ m. just (LambdaMore (xs ++ tree.identifier t ∷ [])) as_it_is) (one s.CloseParen (λ c. give (xs ++ tree.identifier t ∷ []))))
@@ -377,10 +382,10 @@ forms (CallMore a) =
     where_one s.Dot (λ d. one s.Identifier (λ t. deeper (CallMore (tree.member a (tree.identifier t))) (λ e. give e)))
     (one s.OpenParen (λ p. deeper Args (λ xs. give (tree.call a xs))))
 forms (NewMore t n) =
-    where_one s.OpenParen (λ p. deeper Args (λ xs. bar (is s.OpenBrace) (give (tree.new_object t n xs))))
+    where_one s.OpenParen (λ p. deeper Args (λ xs. left_out (is s.OpenBrace) (give (tree.new_object t n xs))))
     (where_one s.Question (λ q. just (NewArray t n (Some q.span)) as_it_is) (just (NewArray t n None) as_it_is))
 forms (NewArray t n q) =
-    bar is_type_sign (one s.OpenBracket (λ b. bar (is s.Comma)
+    left_out is_type_sign (one s.OpenBracket (λ b. left_out (is s.Comma)
     (where_inner s.CloseBracket (λ c. just (NewItems t n q None c) as_it_is) (deeper Whole (λ e. inner s.CloseBracket (λ c. just (NewItems t n q (Some e) c) as_it_is))))))
 forms (NewItems t n q e c) = where_one s.OpenBrace (λ b. deeper Items (λ xs. give (tree.new_array_of t n q e xs))) (give (tree.new_array t n q e c.span))
 forms Args = where_one s.CloseParen (λ c. give (arguments [] c.span)) (here Arg (λ a. just (MoreArgs (a ∷ [])) as_it_is))
@@ -419,7 +424,7 @@ forms (ForTest b) = where_one s.Semicolon (λ z. just (ForSteps b None) as_it_is
 forms (ForSteps b c) = where_one s.CloseParen (λ q. give (head b c [])) (here Whole (λ e. just (MoreSteps b c (e ∷ [])) as_it_is))
 forms (MoreSteps b c xs) = where_one s.Comma (λ t. here Whole (λ e. just (MoreSteps b c (xs ++ e ∷ [])) as_it_is)) (one s.CloseParen (λ q. give (head b c xs)))
 forms (ForeachMore t) =
-    one s.OpenParen (λ p. where_inner s.Var (λ v. foreach_name t declared.Var) (deeper AnyType (λ y. bar is_type_sign (foreach_name t (declared.Written y)))))
+    one s.OpenParen (λ p. where_inner s.Var (λ v. foreach_name t declared.Var) (deeper AnyType (λ y. left_out is_type_sign (foreach_name t (declared.Written y)))))
 forms (SwitchMore t) =
     test_then (λ e. one s.OpenBrace (λ o. where_inner s.CloseBrace (λ c. give (tree.switch t e [] c)) (deeper AnyLabel (λ x. deeper (Sections t e [] x [] []) (λ y. give y)))))
 forms AnyLabel =
@@ -432,7 +437,7 @@ forms (TryMore t b xs) =
     pick (is s.Catch) (here CatchOf (λ c. just (TryMore t b (xs ++ c ∷ [])) as_it_is))
     (where_one s.Finally (λ w. here BlockOf (λ z. give (tree.try_finally t b xs z))) (give (tree.try_block t b xs)))
 forms CatchOf =
-    one s.Catch (λ t. where_one s.OpenParen (λ p. deeper AnyType (λ y. bar is_type_sign (inner s.Identifier (λ x. inner s.CloseParen (λ q. here BlockOf (λ b. give (tree.catch_one t y x b)))))))
+    one s.Catch (λ t. where_one s.OpenParen (λ p. deeper AnyType (λ y. left_out is_type_sign (inner s.Identifier (λ x. inner s.CloseParen (λ q. here BlockOf (λ b. give (tree.catch_one t y x b)))))))
     (here BlockOf (λ b. give (tree.catch_all t b))))
 forms Begin =
     where_one s.Var (λ t. just (Locals (declared.Var, t.span)) as_it_is)

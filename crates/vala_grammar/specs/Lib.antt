@@ -2,6 +2,7 @@ pub mod Sorts
 pub mod Trees
 pub mod Parts
 pub mod Tests
+pub mod Label
 pub mod Grammar
 pub mod Answer
 pub mod Tables

@@ -3,12 +3,12 @@
 ghost use Rattle.std.specs.Prelude.{◌≡◌, ◌≤◌};
 ghost use Rattle.vala_lexer.specs.Tokens.{left};
 ghost use Rattle.vala_grammar.specs.Parts as part;
-ghost use Rattle.vala_parse_expr.specs.Parsed.{Parsed};
+ghost use Rattle.vala_cursor.specs.Parsed.{Parsed};
 
-use crate::cursor::Cursor;
-use crate::names;
 use static_rules::Refusal;
 use std::alloc::Global;
+use vala_cursor::Cursor;
+use vala_expressions::names;
 use vala_lexer::Lexer;
 use vala_tree::{NameTree, TypeTree};
 use vg_base::Fault;

@@ -1,5 +1,5 @@
 use Rattle.vala_grammar.specs.Parts.{AnyType}
-use Rattle.vala_parse_expr.proofs.Parsed.{from_tree, from_fault}
+use Rattle.vala_cursor.proofs.Parsed.{from_tree, from_fault}
 use Rattle.vala_parse_expr.proofs.parse.parse_type.Goals as goal
 
 pub returns-in-Ok : goal.returns-in-Ok

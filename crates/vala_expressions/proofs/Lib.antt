@@ -1,0 +1,6 @@
+pub mod BracketLaws
+pub mod ChainLaws
+pub mod NameLaws
+pub mod OperandLaws
+pub mod Progress
+pub mod SuffixLaws

@@ -1,0 +1,9 @@
+use Rattle.std.proofs.Common.{◌≡◌, ◌∙◌, sym, ap, false, true}
+use Rattle.vala_grammar.specs.Tests.{begins_prefix, goes_on, is_asked, opens_choice}
+use Rattle.vala_cursor.specs.Ahead.{rest}
+use Rattle.vala_expressions.specs.Chains.{further, tests_type}
+use Rattle.vala_cursor.proofs.Ways.{next_sort, passes, is_behind}
+use Rattle.vala_expressions.proofs.tiers.goes_further.Goals as goal
+
+pub returns-in-Some : goal.returns-in-Some
+returns-in-Some c = c.continues.ensures ∙ sym (next_sort (further c.args.tier c.args.last.now) (rest c.args.cursor.now) ∙ ap (passes (further c.args.tier c.args.last.now)) (sym c.in-Some.ensures))

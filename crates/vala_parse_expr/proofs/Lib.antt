@@ -1,4 +1,0 @@
-pub mod Left
-pub mod NameLaws
-pub mod Parsed
-pub mod Steps
