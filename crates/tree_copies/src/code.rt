@@ -8,9 +8,9 @@ use crate::names::{identifier, identifiers, name, type_tree};
 use sqlite_items::{Boxed, Items};
 use std::alloc::{AllocError, Global};
 use vala_tree::{
-    Argument, ArgumentMark, Block, Catch, Caught, Declarator, DeclaredType, Expr, For, ForStart,
-    Foreach, If, Iteration, Jump, Label, LambdaBody, Literal, Local, NewArray, Operation, Postfix,
-    Primary, Section, Selection, Stmt, Try,
+    Argument, ArgumentMark, Arm, Block, Catch, Caught, Declarator, DeclaredType, Expr, For,
+    ForStart, Foreach, If, Iteration, Jump, Label, LambdaBody, Literal, Local, NewArray, Operation,
+    Postfix, Primary, Section, Selection, Stmt, Try,
 };
 
 fn literal(alloc: Global, literal: &Literal) -> Result<Literal, AllocError>
@@ -482,31 +482,42 @@ fn branch(alloc: Global, tree: &If) -> Result<If, AllocError>
 {
     match tree {
         If {
-            test,
-            yes,
+            arms: list,
             no: None,
-        } => {
-            let yes = boxed_stmt(alloc, yes)?;
-            Ok(If {
-                test: expr(alloc, test)?,
-                yes,
-                no: None,
-            })
-        }
+        } => Ok(If {
+            arms: arms(alloc, list.as_slice())?,
+            no: None,
+        }),
         If {
-            test,
-            yes,
+            arms: list,
             no: Some(no),
-        } => {
-            let yes = boxed_stmt(alloc, yes)?;
-            let no = boxed_stmt(alloc, no)?;
-            Ok(If {
-                test: expr(alloc, test)?,
-                yes,
-                no: Some(no),
-            })
-        }
+        } => Ok(If {
+            arms: arms(alloc, list.as_slice())?,
+            no: Some(boxed_stmt(alloc, no)?),
+        }),
     }
+}
+
+#[cycle(code)]
+fn arm(alloc: Global, tree: &Arm) -> Result<Arm, AllocError>
+    ensures { IfOk result (λ it. it ≡ tree.now) }
+{
+    let test = Boxed::new(alloc, expr(alloc, &tree.test)?)?;
+    Ok(Arm {
+        body: stmt(alloc, &tree.body)?,
+        test: test.into_inner(),
+    })
+}
+
+#[cycle(code)]
+fn arms(alloc: Global, trees: &[Arm]) -> Result<Items<Arm>, AllocError>
+    ensures { IfOk result (λ it. it ≡ trees.now) }
+{
+    let mut copy = Items::new(alloc);
+    for tree in trees {
+        copy.push(arm(alloc, tree)?)?;
+    }
+    Ok(copy)
 }
 
 #[cycle(code)]

@@ -132,18 +132,18 @@ fit_simple = fit_part tabled Simple
 
 -- ---- `if` and loops
 
-pub fit_if_more : (t : Lexeme) → FitsAs (IfMore t)
+pub fit_if_more : FitsAs IfMore
 unfolding forms
-fit_if_more t = fit_part tabled (IfMore t)
+fit_if_more = fit_part tabled IfMore
     (token s.OpenParen refl (λ p. text refl (λ c. token s.CloseParen refl (λ q. text refl (λ a. text refl (λ a. done _) (λ a. refl) (λ a. same_set (behind_statement a.is_open))) (λ a. else_follows a.is_open) (λ a. open_ends a.is_open))) (λ c. refl) (λ c. tt))) refl (λ a e. absurd e)
 
-pub fit_if_tail : (t : Lexeme) (c : Expr) (a : Ended) → FitsAs (IfTail t c a)
+pub fit_if_tail : (c : Expr) (a : Ended) → FitsAs (IfTail c a)
 unfolding forms
-fit_if_tail t c a = by a.statement a.is_open
+fit_if_tail c a = by a.statement a.is_open
   where
-    by : (x : Stmt) (b : Bool) → FitsAs (IfTail t c (record { statement = x; is_open = b }))
-    by x true = fit_part tabled (IfTail t c (record { statement = x; is_open = true })) (done _) refl (λ a e. e)
-    by x false = fit_part tabled (IfTail t c (record { statement = x; is_open = false })) (where_fits s.Else refl (λ w. text refl (λ a. done _) (λ a. refl) (λ a. same_set (behind_statement a.is_open))) (done _) refl refl) refl (λ a e. e)
+    by : (x : Stmt) (b : Bool) → FitsAs (IfTail c (record { statement = x; is_open = b }))
+    by x true = fit_part tabled (IfTail c (record { statement = x; is_open = true })) (done _) refl (λ a e. e)
+    by x false = fit_part tabled (IfTail c (record { statement = x; is_open = false })) (where_fits s.Else refl (λ w. text refl (λ a. done _) (λ a. refl) (λ a. same_set (behind_statement a.is_open))) (done _) refl refl) refl (λ a e. e)
 
 pub fit_do_more : (t : Lexeme) → FitsAs (DoMore t)
 unfolding forms

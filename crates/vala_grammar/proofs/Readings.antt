@@ -1,9 +1,10 @@
 -- Readings of short texts, computed.
-use Rattle.std.proofs.Common.{◌≡◌, ℕ, refl, List, [], ◌∷◌, Some, None, Ok, Err, codes}
+use Rattle.std.proofs.Common.{◌≡◌, ℕ, false, refl, List, [], ◌∷◌, Some, None, Ok, Err, codes}
 use Rattle.predictive_grammar.specs.Steps.{Outcome, LeftOut, Nesting, Number}
 use Rattle.predictive_grammar.specs.Reading.{reader, walk, run}
 use Rattle.vala_lexer.specs.Tokens.{Lexeme}
 use Rattle.vala_lexer.specs.declared.token.TokenKind.TheVariants as k
+use Rattle.vala_tree.specs.Spans.{stmt_span}
 use Rattle.vala_tree.specs.declared.code.Expr.{Expr}
 use Rattle.vala_tree.specs.declared.code.Stmt.TheVariants as st
 use Rattle.vala_tree.specs.declared.code.DeclaredType.TheVariants as declared
@@ -114,10 +115,18 @@ s_TypeTest = sample s.TypeTest
 abbrev s_Yield : Lexeme
 s_Yield = sample s.Yield
 
+abbrev empty : Ended
+empty = tree.ended (st.Empty s_Semicolon.span)
+
 -- `if ( a ) if ( b ) ; else ;`
-nearest_else : statement (s_If ∷ s_OpenParen ∷ a ∷ s_CloseParen ∷ s_If ∷ s_OpenParen ∷ b ∷ s_CloseParen ∷ s_Semicolon ∷ s_Else ∷ s_Semicolon ∷ []) ≡ Ok (tree.if_then s_If (tree.name a) (tree.if_else s_If (tree.name b) (tree.ended (st.Empty s_Semicolon.span)) (tree.ended (st.Empty s_Semicolon.span))), [])
+nearest_else : statement (s_If ∷ s_OpenParen ∷ a ∷ s_CloseParen ∷ s_If ∷ s_OpenParen ∷ b ∷ s_CloseParen ∷ s_Semicolon ∷ s_Else ∷ s_Semicolon ∷ []) ≡ Ok (tree.if_of s_If (tree.one_arm (tree.name a) (tree.if_of s_If (tree.arm_before (tree.name b) empty (tree.last_branch empty)))), [])
 unfolding reader run walk forms
 nearest_else = refl
+
+-- `if ( a ) ; else if ( b ) ; else ;`
+chain_of_ifs : statement (s_If ∷ s_OpenParen ∷ a ∷ s_CloseParen ∷ s_Semicolon ∷ s_Else ∷ s_If ∷ s_OpenParen ∷ b ∷ s_CloseParen ∷ s_Semicolon ∷ s_Else ∷ s_Semicolon ∷ []) ≡ Ok (tree.if_of s_If (record { arms = tree.arm (tree.name a) empty ∷ tree.arm (tree.name b) empty ∷ []; no = Some empty.statement; is_open = false; «end» = stmt_span empty.statement }), [])
+unfolding reader run walk forms
+chain_of_ifs = refl
 
 -- `( a ) - b`
 names_minus : expression (s_OpenParen ∷ a ∷ s_CloseParen ∷ s_Minus ∷ b ∷ []) ≡ Ok ((tree.joined (tree.bracketed_names s_OpenParen.span (tree.one_word a) s_CloseParen.span) s_Minus (tree.plain (tree.name b))).value, [])

@@ -61,7 +61,7 @@ cost AnyStmt = 2
 cost Bare = 1
 cost Body = 2
 cost Alternative = 2
-cost (IfMore _) = 16
+cost IfMore = 16
 cost (DoMore _) = 16
 cost (ForMore _) = 3
 cost ForHeadOf = 2
@@ -242,10 +242,10 @@ unfolding forms
 way_bracket true o = other (other (other (one (by_token s.Void refl (by_text refl (λ c. end))))))
 way_bracket false o = other (other (one (by_token s.Void refl (by_text refl (λ c. end)))))
 
-way_if : (t : Lexeme) (c : Expr) (x : Stmt) (b : Bool) → WayOf (IfTail t c (record { statement = x; is_open = b })) (forms (IfTail t c (record { statement = x; is_open = b })))
+way_if : (c : Expr) (x : Stmt) (b : Bool) → WayOf (IfTail c (record { statement = x; is_open = b })) (forms (IfTail c (record { statement = x; is_open = b })))
 unfolding forms
-way_if t c x true = end
-way_if t c x false = other end
+way_if c x true = end
+way_if c x false = other end
 
 ways : (p : Part) → WayOf p (forms p)
 unfolding forms
@@ -303,8 +303,8 @@ ways Bare = other (by_text refl (λ a. end))
 ways Simple = one (by_token s.Semicolon refl end)
 ways Body = one (by_text refl (λ a. end))
 ways Alternative = one (by_text refl (λ a. end))
-ways (IfMore t) = by_token s.OpenParen refl (by_text refl (λ e. by_token s.CloseParen refl (by_text refl (λ a. by_text refl (λ a. end)))))
-ways (IfTail t c a) = way_if t c a.statement a.is_open
+ways IfMore = by_token s.OpenParen refl (by_text refl (λ e. by_token s.CloseParen refl (by_text refl (λ a. by_text refl (λ a. end)))))
+ways (IfTail c a) = way_if c a.statement a.is_open
 ways (DoMore t) = by_text refl (λ a. by_token s.While refl (by_token s.OpenParen refl (by_text refl (λ e. by_token s.CloseParen refl (by_token s.Semicolon refl end)))))
 ways (ForMore t) = by_token s.OpenParen refl (by_text refl (λ h. by_text refl (λ a. end)))
 ways ForHeadOf = one (by_token s.Semicolon refl (by_text refl (λ a. end)))

@@ -402,7 +402,7 @@ forms (MoreItems xs) =
 forms BlockOf = one s.OpenBrace (λ o. deeper (Statements o []) (λ b. give b))
 forms (Statements o xs) = where_one s.CloseBrace (λ c. give (tree.block o xs c)) (here AnyStmt (λ x. just (Statements o (xs ++ x.statement ∷ [])) as_it_is))
 forms AnyStmt = pick (is s.OpenBrace) (braces as_it_is) (just Bare as_it_is)
-forms Bare = where_one s.If (λ t. just (IfMore t) as_it_is) (just Simple as_it_is)
+forms Bare = where_one s.If (λ t. just IfMore (λ b. tree.if_of t b)) (just Simple as_it_is)
 forms Simple =
     where_one s.Semicolon (λ t. give (tree.ended (st.Empty t.span)))
     (loops (jumps
@@ -410,9 +410,9 @@ forms Simple =
     (where_one s.Try (λ t. here BlockOf (λ b. just (TryMore t b []) tree.ended))
     (here Begin (λ b. end_with (λ c. tree.ended (tree.begun b c))))))))
 forms Body = pick (is s.OpenBrace) (braces as_it_is) (deeper Bare (λ x. give x))
-forms Alternative = pick (is s.OpenBrace) (braces as_it_is) (where_one s.If (λ t. just (IfMore t) as_it_is) (deeper Simple (λ x. give x)))
-forms (IfMore t) = test_then (λ c. here Body (λ a. just (IfTail t c a) as_it_is))
-forms (IfTail t c a) = if a.is_open then give (tree.if_then t c a) else where_one s.Else (λ w. here Alternative (λ b. give (tree.if_else t c a b))) (give (tree.if_then t c a))
+forms Alternative = pick (is s.OpenBrace) (braces tree.last_branch) (where_one s.If (λ t. just IfMore as_it_is) (deeper Simple (λ x. give (tree.last_branch x))))
+forms IfMore = test_then (λ c. here Body (λ a. just (IfTail c a) as_it_is))
+forms (IfTail c a) = if a.is_open then give (tree.one_arm c a) else where_one s.Else (λ w. here Alternative (λ b. give (tree.arm_before c a b))) (give (tree.one_arm c a))
 forms (DoMore t) = here Body (λ a. one s.While (λ w. test_then (λ c. end_with (λ z. tree.do_loop t a c z))))
 forms (ForMore t) = one s.OpenParen (λ p. deeper ForHeadOf (λ h. here Body (λ a. give (tree.for_loop t h a))))
 forms ForHeadOf =

@@ -23,6 +23,7 @@ use Rattle.vala_grammar.specs.declared.parts.Bracketed.{Bracketed}
 use Rattle.vala_grammar.specs.declared.parts.Tested.{Tested}
 use Rattle.vala_grammar.specs.declared.parts.Beginning.{Beginning}
 use Rattle.vala_grammar.specs.declared.parts.Ended.{Ended}
+use Rattle.vala_grammar.specs.declared.parts.Branches.{Branches}
 use Rattle.vala_grammar.specs.declared.parts.ForHead.{ForHead}
 use Rattle.vala_grammar.specs.declared.parts.Arguments.{Arguments}
 use Rattle.vala_grammar.specs.declared.parts.Listed.{Listed}
@@ -109,11 +110,11 @@ pub data Part : Type 0 where
   AnyStmt : Part
   Bare : Part
   Simple : Part
-  -- the body of a loop or an `if`; what follows `else`; what follows `if`, and its first body
+  -- the body of a loop or an `if`; what follows `else`; what follows `if`, and its condition and first body
   Body : Part
   Alternative : Part
-  IfMore : Lexeme → Part
-  IfTail : Lexeme → Expr → Ended → Part
+  IfMore : Part
+  IfTail : Expr → Ended → Part
   -- what follows the words that begin a statement
   DoMore : Lexeme → Part
   ForMore : Lexeme → Part
@@ -188,9 +189,9 @@ tree_of AnyStmt = Ended
 tree_of Bare = Ended
 tree_of Simple = Ended
 tree_of Body = Ended
-tree_of Alternative = Ended
-tree_of (IfMore _) = Ended
-tree_of (IfTail _ _ _) = Ended
+tree_of Alternative = Branches
+tree_of IfMore = Branches
+tree_of (IfTail _ _) = Branches
 tree_of (DoMore _) = Stmt
 tree_of (ForMore _) = Ended
 tree_of ForHeadOf = ForHead

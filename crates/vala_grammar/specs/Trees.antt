@@ -37,6 +37,7 @@ use Rattle.vala_tree.specs.declared.code.Postfix.TheVariants as post
 use Rattle.vala_tree.specs.declared.code.Operation.TheVariants as operation
 use Rattle.vala_tree.specs.declared.code.LambdaBody.TheVariants as body
 use Rattle.vala_tree.specs.declared.code.Argument.{Argument}
+use Rattle.vala_tree.specs.declared.code.Arm.{Arm}
 use Rattle.vala_tree.specs.declared.code.ArgumentMark.{ArgumentMark}
 use Rattle.vala_tree.specs.declared.code.ArgumentMark.TheVariants as mark
 use Rattle.vala_tree.specs.declared.code.Block.{Block}
@@ -50,6 +51,7 @@ use Rattle.vala_tree.specs.declared.code.Label.TheVariants as label
 use Rattle.vala_tree.specs.declared.code.Section.{Section}
 use Rattle.vala_tree.specs.declared.code.Declarator.{Declarator}
 use Rattle.vala_tree.specs.declared.code.DeclaredType.{DeclaredType}
+use Rattle.vala_tree.specs.declared.code.If.{roll-If}
 use Rattle.vala_tree.specs.declared.code.Local.{roll-Local}
 use Rattle.vala_tree.specs.declared.code.Catch.{Catch}
 use Rattle.vala_tree.specs.declared.code.Try.{roll-Try}
@@ -59,6 +61,7 @@ use Rattle.vala_grammar.specs.declared.parts.Arguments.{Arguments}
 use Rattle.vala_grammar.specs.declared.parts.Listed.{Listed}
 use Rattle.vala_grammar.specs.declared.parts.Tested.{Tested}
 use Rattle.vala_grammar.specs.declared.parts.Ended.{Ended}
+use Rattle.vala_grammar.specs.declared.parts.Branches.{Branches}
 use Rattle.vala_grammar.specs.declared.parts.ForHead.{ForHead}
 use Rattle.vala_grammar.specs.declared.parts.Beginning.{Beginning}
 use Rattle.vala_grammar.specs.declared.parts.Beginning.TheVariants as beginning
@@ -359,11 +362,23 @@ abbrev pub begun : Beginning → Lexeme → Stmt
 begun (beginning.Declared d s) t = st.Local d (join s t.span)
 begun (beginning.Expression a) t = expression a t
 
-abbrev pub if_then : Lexeme → Expr → Ended → Ended
-if_then t c a = record { statement = st.Selection (selection.If (record { test = c; yes = a.statement; no = None })) (join t.span (stmt_span a.statement)); is_open = true }
+abbrev pub arm : Expr → Ended → Arm
+arm c a = record { test = c; body = a.statement }
 
-abbrev pub if_else : Lexeme → Expr → Ended → Ended → Ended
-if_else t c a b = record { statement = st.Selection (selection.If (record { test = c; yes = a.statement; no = Some b.statement })) (join t.span (stmt_span b.statement)); is_open = b.is_open }
+-- an arm alone
+abbrev pub one_arm : Expr → Ended → Branches
+one_arm c a = record { arms = arm c a ∷ []; no = None; is_open = true; «end» = stmt_span a.statement }
+
+-- an arm in front of what stands behind its `else`
+abbrev pub arm_before : Expr → Ended → Branches → Branches
+arm_before c a b = record { arms = arm c a ∷ b.arms; no = b.no; is_open = b.is_open; «end» = b.«end» }
+
+-- a statement behind a last `else`
+abbrev pub last_branch : Ended → Branches
+last_branch a = record { arms = []; no = Some a.statement; is_open = a.is_open; «end» = stmt_span a.statement }
+
+abbrev pub if_of : Lexeme → Branches → Ended
+if_of t b = record { statement = st.Selection (selection.If (roll-If (record { arms = b.arms; no = b.no }))) (join t.span b.«end»); is_open = b.is_open }
 
 abbrev pub while_loop : Lexeme → Expr → Ended → Ended
 while_loop t c a = record { statement = st.Iteration (iteration.While c a.statement) (join t.span (stmt_span a.statement)); is_open = a.is_open }

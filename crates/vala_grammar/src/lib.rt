@@ -9,7 +9,7 @@ mod tests;
 
 pub use laws::{texts_are_read_exactly, texts_have_one_tree};
 pub use parts::{
-    Arguments, Beginning, Bracketed, Chain, Context, Ended, ForHead, Last, Lead, Listed, Opening,
-    Signs, Tested, Tier, TypeName,
+    Arguments, Beginning, Bracketed, Branches, Chain, Context, Ended, ForHead, Last, Lead, Listed,
+    Opening, Signs, Tested, Tier, TypeName,
 };
 pub use sort::{Sort, sort_of};

@@ -1,7 +1,7 @@
-// What is read on the way to a tree.
+// What is read on the way to a tree. The trees in it are boxed, so that it is small to hand on and to drop.
 
 use sqlite_items::{Boxed, Items};
-use vala_tree::{Argument, Expr, ForStart, Local, NameTree, Stmt, TypeTree};
+use vala_tree::{Argument, Arm, Expr, ForStart, Local, NameTree, Stmt, TypeTree};
 use vg_base::Span;
 
 /// What a chain of operands ends with, where that decides what may follow it.
@@ -16,7 +16,7 @@ pub enum Last {
     /// A type behind `is` or `as` without a mark. A `?` behind it is read with the type.
     Unmarked,
     /// `? b` behind a type that is tested for, of which `: c` is to come.
-    Asked(Expr),
+    Asked(Boxed<Expr>),
     /// Names with nothing behind them, which may still be a type. A `?` behind them is read with the names.
     Alone,
 }
@@ -24,7 +24,7 @@ pub enum Last {
 /// An operand, or operands with operators between them.
 #[derive(Drop)]
 pub struct Chain {
-    pub value: Expr,
+    pub value: Boxed<Expr>,
     pub last: Last,
 }
 
@@ -48,13 +48,13 @@ pub enum Lead {
 pub enum Opening {
     Type(TypeTree),
     Names(NameTree),
-    Value(Expr),
+    Value(Boxed<Expr>),
 }
 
 /// What begins with a bracket: a lambda, or an operand.
 #[derive(Drop)]
 pub enum Bracketed {
-    Lambda(Expr),
+    Lambda(Boxed<Expr>),
     Operand(Chain),
 }
 
@@ -68,21 +68,31 @@ pub struct Tested {
 /// What a statement or a `for` begins with that no word tells: a declaration with its place, or an expression.
 #[derive(Drop)]
 pub enum Beginning {
-    Declared(Local, Span),
-    Expression(Expr),
+    Declared(Boxed<Local>, Span),
+    Expression(Boxed<Expr>),
 }
 
 /// A statement, and whether an `else` could go on with it.
 #[derive(Drop)]
 pub struct Ended {
-    pub statement: Stmt,
+    pub statement: Boxed<Stmt>,
     pub is_open: bool,
+}
+
+/// What stands behind an `if`, or behind its `else`: the arms in their order and what stands behind a last `else`, whether a
+/// further `else` could go on with it, and the place of its last statement.
+#[derive(Drop)]
+pub struct Branches {
+    pub arms: Items<Arm>,
+    pub no: Option<Boxed<Stmt>>,
+    pub is_open: bool,
+    pub end: Span,
 }
 
 /// What stands in the brackets of a `for`.
 #[derive(Drop)]
 pub struct ForHead {
-    pub start: ForStart,
+    pub start: Boxed<ForStart>,
     pub test: Option<Boxed<Expr>>,
     pub steps: Items<Expr>,
 }

@@ -13,6 +13,7 @@ use Rattle.vala_tree.specs.declared.code.Primary.{Primary}
 use Rattle.vala_tree.specs.declared.code.Selection.{Selection}
 use Rattle.vala_tree.specs.declared.code.Stmt.{Stmt, out-Stmt}
 use Rattle.vala_tree.specs.declared.code.Argument.{Argument}
+use Rattle.vala_tree.specs.declared.code.Arm.{Arm}
 use Rattle.vala_tree.specs.declared.code.Block.{Block, out-Block}
 use Rattle.vala_tree.specs.declared.code.Catch.{Catch}
 use Rattle.vala_tree.specs.declared.code.Declarator.{Declarator}
@@ -26,11 +27,11 @@ use Rattle.vala_tree.specs.declared.code.Try.{Try}
 
 -- one level of an expression, as `out-Expr` opens it
 abbrev pub ExprLayer : Type 0
-ExprLayer = Expr-F Expr ForStart Iteration Jump Label LambdaBody Operation Postfix Primary Selection Stmt Argument Block Catch Declarator For Foreach If Local NewArray Section Try
+ExprLayer = Expr-F Expr ForStart Iteration Jump Label LambdaBody Operation Postfix Primary Selection Stmt Argument Arm Block Catch Declarator For Foreach If Local NewArray Section Try
 
 -- one level of a statement, as `out-Stmt` opens it
 abbrev pub StmtLayer : Type 0
-StmtLayer = Stmt-F Expr ForStart Iteration Jump Label LambdaBody Operation Postfix Primary Selection Stmt Argument Block Catch Declarator For Foreach If Local NewArray Section Try
+StmtLayer = Stmt-F Expr ForStart Iteration Jump Label LambdaBody Operation Postfix Primary Selection Stmt Argument Arm Block Catch Declarator For Foreach If Local NewArray Section Try
 
 abbrev pub expr_layer_span : ExprLayer → Span
 expr_layer_span (Expr-F.Literal _ s) = s

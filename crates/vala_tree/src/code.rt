@@ -125,13 +125,21 @@ pub enum Selection {
     Switch(Expr, Items<Section>),
 }
 
-/// The condition, what is done where it holds, and what `else` stands before.
+/// `if` with the `else if` behind it: an arm for each, in their order, and what stands behind a last `else`. That is no
+/// `if` without braces. A chain may be as long as a file is, so it is a list: the tree is no deeper for it.
 #[cycle(code)]
 #[derive(Drop)]
 pub struct If {
-    pub test: Expr,
-    pub yes: Boxed<Stmt>,
+    pub arms: Items<Arm>,
     pub no: Option<Boxed<Stmt>>,
+}
+
+/// A condition, and what is done where it is the first that holds.
+#[cycle(code)]
+#[derive(Drop)]
+pub struct Arm {
+    pub test: Expr,
+    pub body: Stmt,
 }
 
 #[cycle(code)]

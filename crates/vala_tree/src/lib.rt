@@ -10,6 +10,7 @@
 //! | bases, throws | a list of `TypeTree` in `Class`, `Signature`, `Creation` |
 //! | access, params, param | `Accessor`, a list of `Parameter` |
 //! | block, stmt, section, label, local | `Block`, `Stmt` (by family: `Selection`, `Iteration`, `Jump`), `Section`, `Label`, `Local` |
+//! | `if` with the `else if` behind it | `If`, a list of `Arm` |
 //! | init, exprs | `Expr` (`Primary::List` in braces), a list of `Expr` |
 //! | lambda | `Expr::Lambda` |
 //! | primary | `Expr::Literal`, `Name`, `This`, `Base`, `Primary` |
@@ -26,9 +27,9 @@ mod operators;
 mod spans;
 
 pub use code::{
-    Argument, ArgumentMark, Block, Catch, Caught, Declarator, DeclaredType, Expr, For, ForStart,
-    Foreach, If, Iteration, Jump, Label, LambdaBody, Literal, Local, NewArray, Operation, Postfix,
-    Primary, Section, Selection, Stmt, Try,
+    Argument, ArgumentMark, Arm, Block, Catch, Caught, Declarator, DeclaredType, Expr, For,
+    ForStart, Foreach, If, Iteration, Jump, Label, LambdaBody, Literal, Local, NewArray, Operation,
+    Postfix, Primary, Section, Selection, Stmt, Try,
 };
 pub use member::{
     Accessor, Attribute, AttributeArgument, Class, Constant, Construction, Creation, Declaration,

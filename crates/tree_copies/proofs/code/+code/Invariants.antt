@@ -21,3 +21,6 @@ invariant-labels-loop-tree l = l.copy ≡ take l.tree-index l.trees
 
 abbrev pub invariant-catches-loop-tree : goal.invariant-catches-loop-tree
 invariant-catches-loop-tree l = l.copy ≡ take l.tree-index l.trees
+
+abbrev pub invariant-arms-loop-tree : goal.invariant-arms-loop-tree
+invariant-arms-loop-tree l = l.copy ≡ take l.tree-index l.trees
