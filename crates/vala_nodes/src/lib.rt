@@ -1,4 +1,9 @@
-//! The nodes of the tree of a Vala file, made from their parts as the grammar says: names and types.
+//! The nodes of the tree of a Vala file, made from their parts as the grammar says.
 #![tactic(auto)]
 
+pub mod brackets;
+pub mod chains;
+pub mod lists;
 pub mod names;
+pub mod operands;
+pub mod statements;
