@@ -1,6 +1,5 @@
 // The parsers that other crates call: each over a lexer, from the level at which its part stands.
 
-ghost use Rattle.std.specs.Prelude.{◌≡◌, ◌≤◌};
 ghost use Rattle.vala_lexer.specs.Tokens.{left};
 ghost use Rattle.vala_grammar.specs.Parts as part;
 ghost use Rattle.vala_cursor.specs.Parsed.{Parsed};
@@ -19,7 +18,6 @@ pub fn parse_name(
     lexer: &mut Lexer<'_>,
     level: u32,
 ) -> Result<NameTree, Fault<Refusal>>
-    requires { level ≤ 201 }
     ensures { Parsed part.Name level (left lexer.old) result (left lexer.new) }
 {
     let end = lexer.end();
@@ -38,7 +36,6 @@ pub fn parse_type(
     lexer: &mut Lexer<'_>,
     level: u32,
 ) -> Result<TypeTree, Fault<Refusal>>
-    requires { level ≤ 201 }
     ensures { Parsed part.AnyType level (left lexer.old) result (left lexer.new) }
 {
     let end = lexer.end();
