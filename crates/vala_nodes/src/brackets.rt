@@ -17,12 +17,14 @@ use vg_base::Span;
 pub fn names(alloc: Global, name: NameTree) -> Result<Boxed<Expr>, AllocError>
     ensures { IfOk result (λ e. e ≡ tree.names name) }
 {
-    let mut words = name.words;
+    let span = name.span;
+    let mut words = name.into_words();
     if words.is_empty() {
-        return Boxed::new(alloc, Expr::Name(Items::new(alloc), name.span));
+        return Boxed::new(alloc, Expr::Name(Items::new(alloc), span));
     }
     let first = words.remove(0);
-    let left = Boxed::new(alloc, Expr::Name(first.text, first.span))?;
+    let span = first.span;
+    let left = Boxed::new(alloc, Expr::Name(first.into_text(), span))?;
     members(alloc, left, words)
 }
 

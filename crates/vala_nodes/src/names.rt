@@ -49,12 +49,10 @@ pub fn one_more_word(
 ) -> Result<NameTree, AllocError>
     ensures { IfOk result (λ n. n ≡ tree.one_more_word name (seen token.entry)) }
 {
-    let mut words = name.words;
+    let span = join(name.span, token.span);
+    let mut words = name.into_words();
     words.push(identifier(alloc, token)?)?;
-    Ok(NameTree {
-        words,
-        span: join(name.span, token.span),
-    })
+    Ok(NameTree { words, span })
 }
 
 /// Whether the name has one word.

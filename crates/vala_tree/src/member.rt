@@ -6,24 +6,43 @@ use sqlite_items::Items;
 use vg_base::Span;
 
 /// The bytes of a text literal.
-#[derive(Drop)]
 pub struct Text {
     pub bytes: Items<u8>,
     pub span: Span,
 }
 
+impl Drop for Text {
+    fn drop(self) {
+        let Text { bytes, span: _ } = self;
+        drop(bytes);
+    }
+}
+
 /// `name = "text"` in an attribute.
-#[derive(Drop)]
 pub struct AttributeArgument {
     pub name: Identifier,
     pub value: Text,
 }
 
+impl Drop for AttributeArgument {
+    fn drop(self) {
+        let AttributeArgument { name, value } = self;
+        drop(name);
+        drop(value);
+    }
+}
+
 /// `[CCode (..)]`
-#[derive(Drop)]
 pub struct Attribute {
     pub arguments: Items<AttributeArgument>,
     pub span: Span,
+}
+
+impl Drop for Attribute {
+    fn drop(self) {
+        let Attribute { arguments, span: _ } = self;
+        drop(arguments);
+    }
 }
 
 #[derive(Clone, Copy)]
@@ -53,7 +72,6 @@ pub enum Direction {
     Ref,
 }
 
-#[derive(Drop)]
 pub struct Parameter {
     pub direction: Option<Direction>,
     pub declared: TypeTree,
@@ -62,8 +80,22 @@ pub struct Parameter {
     pub span: Span,
 }
 
+impl Drop for Parameter {
+    fn drop(self) {
+        let Parameter {
+            direction: _,
+            declared,
+            name,
+            default,
+            span: _,
+        } = self;
+        drop(declared);
+        drop(name);
+        drop(default);
+    }
+}
+
 /// What a method and a delegate are called by.
-#[derive(Drop)]
 pub struct Signature {
     pub result: TypeTree,
     pub name: Identifier,
@@ -71,48 +103,118 @@ pub struct Signature {
     pub throws: Items<TypeTree>,
 }
 
-#[derive(Drop)]
+impl Drop for Signature {
+    fn drop(self) {
+        let Signature {
+            result,
+            name,
+            parameters,
+            throws,
+        } = self;
+        drop(result);
+        drop(name);
+        drop(parameters);
+        drop(throws);
+    }
+}
+
 pub struct EnumMember {
     pub name: Identifier,
     pub value: Option<Expr>,
     pub span: Span,
 }
 
-#[derive(Drop)]
+impl Drop for EnumMember {
+    fn drop(self) {
+        let EnumMember {
+            name,
+            value,
+            span: _,
+        } = self;
+        drop(name);
+        drop(value);
+    }
+}
+
 pub struct Enumeration {
     pub name: NameTree,
     pub members: Items<EnumMember>,
 }
 
-#[derive(Drop)]
+impl Drop for Enumeration {
+    fn drop(self) {
+        let Enumeration { name, members } = self;
+        drop(name);
+        drop(members);
+    }
+}
+
 pub struct ErrorDomain {
     pub name: NameTree,
     pub codes: Items<Identifier>,
 }
 
-#[derive(Drop)]
+impl Drop for ErrorDomain {
+    fn drop(self) {
+        let ErrorDomain { name, codes } = self;
+        drop(name);
+        drop(codes);
+    }
+}
+
 pub struct Constant {
     pub declared: TypeTree,
     pub name: Identifier,
     pub value: Expr,
 }
 
-#[derive(Drop)]
+impl Drop for Constant {
+    fn drop(self) {
+        let Constant {
+            declared,
+            name,
+            value,
+        } = self;
+        drop(declared);
+        drop(name);
+        drop(value);
+    }
+}
+
 pub struct Field {
     pub declared: TypeTree,
     pub name: Identifier,
     pub value: Option<Expr>,
 }
 
+impl Drop for Field {
+    fn drop(self) {
+        let Field {
+            declared,
+            name,
+            value,
+        } = self;
+        drop(declared);
+        drop(name);
+        drop(value);
+    }
+}
+
 /// Without a body where `;` stands in its place.
-#[derive(Drop)]
 pub struct Method {
     pub signature: Signature,
     pub body: Option<Block>,
 }
 
+impl Drop for Method {
+    fn drop(self) {
+        let Method { signature, body } = self;
+        drop(signature);
+        drop(body);
+    }
+}
+
 /// A creation method, by the class's name or by that, a dot and its own name.
-#[derive(Drop)]
 pub struct Creation {
     pub name: NameTree,
     pub parameters: Items<Parameter>,
@@ -120,18 +222,46 @@ pub struct Creation {
     pub body: Option<Block>,
 }
 
+impl Drop for Creation {
+    fn drop(self) {
+        let Creation {
+            name,
+            parameters,
+            throws,
+            body,
+        } = self;
+        drop(name);
+        drop(parameters);
+        drop(throws);
+        drop(body);
+    }
+}
+
 /// The name is that behind `~`.
-#[derive(Drop)]
 pub struct Destructor {
     pub name: Identifier,
     pub body: Block,
 }
 
+impl Drop for Destructor {
+    fn drop(self) {
+        let Destructor { name, body } = self;
+        drop(name);
+        drop(body);
+    }
+}
+
 /// The place of the word `construct`, and the block behind it.
-#[derive(Drop)]
 pub struct Construction {
     pub word: Span,
     pub body: Block,
+}
+
+impl Drop for Construction {
+    fn drop(self) {
+        let Construction { word: _, body } = self;
+        drop(body);
+    }
 }
 
 /// The words of an accessor that writes, in their order, by their places.
@@ -143,7 +273,6 @@ pub enum SetterWords {
     ConstructSet(Span, Span),
 }
 
-#[derive(Drop)]
 pub struct Getter {
     pub modifier: Option<Modifier>,
     pub is_owned: bool,
@@ -152,14 +281,35 @@ pub struct Getter {
     pub body: Option<Block>,
 }
 
-#[derive(Drop)]
+impl Drop for Getter {
+    fn drop(self) {
+        let Getter {
+            modifier: _,
+            is_owned: _,
+            word: _,
+            body,
+        } = self;
+        drop(body);
+    }
+}
+
 pub struct Setter {
     pub modifier: Option<Modifier>,
     pub words: SetterWords,
     pub body: Option<Block>,
 }
 
-#[derive(Drop)]
+impl Drop for Setter {
+    fn drop(self) {
+        let Setter {
+            modifier: _,
+            words: _,
+            body,
+        } = self;
+        drop(body);
+    }
+}
+
 pub enum Accessor {
     Get(Getter, Span),
     Set(Setter, Span),
@@ -167,31 +317,73 @@ pub enum Accessor {
     Default(Span, Expr, Span),
 }
 
-#[derive(Drop)]
+impl Drop for Accessor {
+    fn drop(self) {
+        match self {
+            Accessor::Get(it, _) => drop(it),
+            Accessor::Set(it, _) => drop(it),
+            Accessor::Default(_, it, _) => drop(it),
+        }
+    }
+}
+
 pub struct Property {
     pub declared: TypeTree,
     pub name: Identifier,
     pub accessors: Items<Accessor>,
 }
 
+impl Drop for Property {
+    fn drop(self) {
+        let Property {
+            declared,
+            name,
+            accessors,
+        } = self;
+        drop(declared);
+        drop(name);
+        drop(accessors);
+    }
+}
+
 /// Without a handler of the class where `;` stands in its place.
-#[derive(Drop)]
 pub struct Signal {
     pub name: Identifier,
     pub parameters: Items<Parameter>,
     pub body: Option<Block>,
 }
 
+impl Drop for Signal {
+    fn drop(self) {
+        let Signal {
+            name,
+            parameters,
+            body,
+        } = self;
+        drop(name);
+        drop(parameters);
+        drop(body);
+    }
+}
+
 #[cycle(member)]
-#[derive(Drop)]
 pub struct Class {
     pub name: NameTree,
     pub bases: Items<TypeTree>,
     pub parts: Items<Member>,
 }
 
+impl Drop for Class {
+    #[cycle(dropped)]
+    fn drop(self) {
+        let Class { name, bases, parts } = self;
+        drop(name);
+        drop(bases);
+        drop(parts);
+    }
+}
+
 #[cycle(member)]
-#[derive(Drop)]
 pub enum Declaration {
     Namespace(NameTree, Items<Member>),
     Class(Class),
@@ -210,9 +402,37 @@ pub enum Declaration {
     Construct(Construction),
 }
 
+impl Drop for Declaration {
+    #[cycle(dropped)]
+    fn drop(self) {
+        match self {
+            Declaration::Namespace(first, second) => {
+                drop(first);
+                drop(second);
+            }
+            Declaration::Class(it) => drop(it),
+            Declaration::Interface(it) => drop(it),
+            Declaration::Struct(first, second) => {
+                drop(first);
+                drop(second);
+            }
+            Declaration::Enum(it) => drop(it),
+            Declaration::Errors(it) => drop(it),
+            Declaration::Delegate(it) => drop(it),
+            Declaration::Constant(it) => drop(it),
+            Declaration::Field(it) => drop(it),
+            Declaration::Method(it) => drop(it),
+            Declaration::Creation(it) => drop(it),
+            Declaration::Destructor(it) => drop(it),
+            Declaration::Property(it) => drop(it),
+            Declaration::Signal(it) => drop(it),
+            Declaration::Construct(it) => drop(it),
+        }
+    }
+}
+
 /// A declaration at the top of a file, in a namespace, or in a type.
 #[cycle(member)]
-#[derive(Drop)]
 pub struct Member {
     pub attributes: Items<Attribute>,
     pub modifiers: Items<Modifier>,
@@ -220,11 +440,37 @@ pub struct Member {
     pub span: Span,
 }
 
+impl Drop for Member {
+    #[cycle(dropped)]
+    fn drop(self) {
+        let Member {
+            attributes,
+            modifiers,
+            declaration,
+            span: _,
+        } = self;
+        drop(attributes);
+        drop(modifiers);
+        drop(declaration);
+    }
+}
+
 /// One source file.
-#[derive(Drop)]
 pub struct FileTree {
     pub usings: Items<NameTree>,
     pub members: Items<Member>,
     /// How many tokens it has.
     pub tokens: u64,
+}
+
+impl Drop for FileTree {
+    fn drop(self) {
+        let FileTree {
+            usings,
+            members,
+            tokens: _,
+        } = self;
+        drop(usings);
+        drop(members);
+    }
 }
