@@ -1,5 +1,5 @@
 -- What the status of a call tells of the words, the counts and the message line.
-use Rattle.std.proofs.Common.{◌≡◌, ◌≢◌, ℕ, ◌+◌, ◌-◌, ◌^◌, ◌≤◌, ◌<◌, min, List, [], ◌∷◌, ◌++◌, length, Some, Result, Ok, Err, refl, sym, ◌∙◌, subst, inl, inr, ◌⊎◌, arith}
+use Rattle.std.proofs.Common.{◌≡◌, ◌≢◌, ℕ, ◌+◌, ◌-◌, ◌^◌, ◌≤◌, ◌<◌, min, List, [], ◌∷◌, ◌++◌, length, Option, Some, None, Result, Ok, Err, refl, sym, ap, append-nil, pos, ◌∙◌, subst, inl, inr, ◌⊎◌, arith}
 use Rattle.vg_base.specs.declared.outside.FolderFault.{FolderFault}
 use Rattle.vg_base.specs.declared.outside.FolderFault.TheVariants as fault
 use Rattle.vg_base.specs.declared.outside.Call.{Call}
@@ -8,7 +8,7 @@ use Rattle.vg_base.specs.declared.event.CEnd.{CEnd}
 use Rattle.vg_base.specs.declared.event.CEnd.TheVariants as c
 use Rattle.vg_base.specs.declared.event.UndefKind.TheVariants as u
 use Rattle.vg_base.specs.declared.event.Stream.TheVariants as stream
-use Rattle.vg_base.specs.Outside.{FolderView, SinkView, IsRead, IsWrite, Takes, Rose, entry_of_read, entry_of_write}
+use Rattle.vg_base.specs.Outside.{FolderView, SinkView, IsRead, IsWrite, Takes, Rose}
 use Rattle.vg_base.specs.Run.{Begins}
 use Rattle.vg_base.specs.World.{World}
 use Rattle.vg_base.specs.Headline.{printed}
@@ -19,12 +19,14 @@ use Rattle.c_reader.specs.CMeaning.{CRun}
 use Rattle.vala2c.specs.declared.status.Kind.{Kind}
 use Rattle.vala2c.specs.declared.status.Kind.TheVariants as kind
 use Rattle.vala2c.specs.declared.status.Status.{Status}
-use Rattle.vala2c.specs.Words.{IsRun, c_file, world_of}
+use Rattle.vala2c.specs.Words.{IsRun, IsCheck, NamesFiles, c_file, world_of}
 use Rattle.vala2c.specs.Status.{line_of, kind_of_end, unheard}
-use Rattle.vala2c.specs.Course.{Chain, TakesAll, TakesFront, Ran, IsPlanned, Course, Goes, Closes, Finishes, CallBy, IsCall, budget, prints_out, prints_err}
+use Rattle.vala2c.specs.Course.{Chain, TakesAll, TakesFront, Ran, AllRead, FrontRead, ReadUpTo, IsBuilt, IsPlanned, Goes, Closes, Finishes, CallBy, IsCall, budget, prints_out, prints_err}
 use Rattle.vala2c.specs.Course as course
-use Rattle.vala2c.specs.Causes.{IsOutside, SpeaksOf, Says, TakesLine, IsOfRun, Causes, last_of}
+use Rattle.vala2c.specs.Causes.{IsOutside, IsFileOf, SpeaksOf, Says, TakesLine, IsOfRun, IsOfCheck, Causes, last_of}
 use Rattle.vala2c.proofs.Quiet.{nothing_on_err}
+use Rattle.vala2c.proofs.Reading.{one_command, is_file, entries, entries_behind, entries_same, last_behind, IsFine, last_read}
+use Rattle.vala2c.proofs.Rules.{named_by}
 
 -- 1. Counts
 
@@ -168,48 +170,58 @@ ran_sinks : (unit : Texts) (w : World) (o o' e e' : SinkView) (k : Kind) → Ran
 ran_sinks unit w o o' e e' k r =
     record { out_faults = r.out.3; err_faults = r.err.3; nothing = nothing_took unit w budget e e' r.err; fault = r.fault; silent = λ a b. not_silent k r.is_of_run a b }
 
-pub course_sinks : (file : List ℕ) (o e : SinkView) (calls : List Call) (o' e' : SinkView) (k : Kind) (named source : List ℕ) → Course file o e calls o' e' k named source → SinksSo o o' e e' k
-course_sinks file o e calls o' e' k named source course.no_file = untouched o e kind.NoFile (λ h. cc)
-course_sinks file o e calls o' e' k named source course.unread = untouched o e kind.ReadFault (λ h. cc)
-course_sinks file o e calls o' e' k named source (course.refused s r rest b) = untouched o e (kind.Refused r) (λ h. cc)
-course_sinks file o e calls o' e' k named source (course.unwritten s c h) = untouched o e kind.WriteFault (λ h. cc)
-course_sinks file o e calls o' e' k named source (course.gone s c h) = untouched o e kind.NoFile (λ h. cc)
-course_sinks file o e calls o' e' k named source (course.unread_back s c h) = untouched o e kind.ReadFault (λ h. cc)
-course_sinks file o e calls o' e' k named source (course.c_refused s c b r h a) = untouched o e (kind.CRefused r) (λ h. cc)
-course_sinks file o e calls o' e' k named source (course.ran s c b unit p q l n t h a r) = ran_sinks unit (world_of file) o o' e e' k (ran_so unit (world_of file) o o' e e' k r)
-course_sinks file o e calls o' e' k named source (course.memory cs n s p) = untouched o e kind.Memory memory_no_fault
+accepted_no_fault : kind.Ended (pos 0) ≢ kind.OutFault
+accepted_no_fault h = cc
+
+pub goes_sinks : (words : List (List ℕ)) (o e : SinkView) (calls : List Call) (o' e' : SinkView) (k : Kind) (named source : List ℕ) → Goes words o e calls o' e' k named source → SinksSo o o' e e' k
+goes_sinks words o e calls o' e' k named source (course.usage n s none) = untouched o e kind.Usage (λ h. cc)
+goes_sinks words o e calls o' e' k named source (course.no_file fs f rs is up) = untouched o e kind.NoFile (λ h. cc)
+goes_sinks words o e calls o' e' k named source (course.unread fs f rs is up) = untouched o e kind.ReadFault (λ h. cc)
+goes_sinks words o e calls o' e' k named source (course.refused fs ss rs r all b) = untouched o e (kind.Refused r) (λ h. cc)
+goes_sinks words o e calls o' e' k named source (course.accepted fs ss rs n s is all h) = untouched o e (kind.Ended (pos 0)) accepted_no_fault
+goes_sinks words o e calls o' e' k named source (course.unwritten fs rs c h) = untouched o e kind.WriteFault (λ h. cc)
+goes_sinks words o e calls o' e' k named source (course.gone fs rs c h) = untouched o e kind.NoFile (λ h. cc)
+goes_sinks words o e calls o' e' k named source (course.unread_back fs rs c h) = untouched o e kind.ReadFault (λ h. cc)
+goes_sinks words o e calls o' e' k named source (course.c_refused fs rs c b r h a) = untouched o e (kind.CRefused r) (λ h. cc)
+goes_sinks words o e calls o' e' k named source (course.ran fs rs c b unit p q l n t h a r) = ran_sinks unit (world_of fs) o o' e e' k (ran_so unit (world_of fs) o o' e e' k r)
+goes_sinks words o e calls o' e' k named source (course.memory cs n s p) = untouched o e kind.Memory memory_no_fault
 
 -- 5. What the message line speaks of
 
-pub course_speaks : (words : List (List ℕ)) (file : List ℕ) (o e : SinkView) (calls : List Call) (o' e' : SinkView) (k : Kind) (named source : List ℕ) → IsRun words file → Course file o e calls o' e' k named source → SpeaksOf words k named source
-course_speaks words file o e calls o' e' k named source is course.no_file = inl is
-course_speaks words file o e calls o' e' k named source is course.unread = inl is
-course_speaks words file o e calls o' e' k named source is (course.refused s r rest b) = (is, (rest, b))
-course_speaks words file o e calls o' e' k named source is (course.unwritten s c h) = (file, is, refl)
-course_speaks words file o e calls o' e' k named source is (course.gone s c h) = inr (file, is, refl)
-course_speaks words file o e calls o' e' k named source is (course.unread_back s c h) = inr (file, is, refl)
-course_speaks words file o e calls o' e' k named source is (course.c_refused s c b r h a) = (file, is, refl)
-course_speaks words file o e calls o' e' k named source is (course.ran s c b unit p q l n t h a r) = (ran_so unit (world_of file) o o' e e' k r).speaks words named source
-course_speaks words file o e calls o' e' k named source is (course.memory cs n s p) = tt
+named_file : (words files : List (List ℕ)) (file : List ℕ) (reads : List Call) → NamesFiles words files → ReadUpTo files file reads → IsFileOf words file
+named_file words files file reads is up = is_file words files up.front file up.behind is up.files_are
+
+pub goes_speaks : (words : List (List ℕ)) (o e : SinkView) (calls : List Call) (o' e' : SinkView) (k : Kind) (named source : List ℕ) → Goes words o e calls o' e' k named source → SpeaksOf words k named source
+goes_speaks words o e calls o' e' k named source (course.usage n s none) = tt
+goes_speaks words o e calls o' e' k named source (course.no_file fs f rs is up) = inl (named_file words fs f rs is up)
+goes_speaks words o e calls o' e' k named source (course.unread fs f rs is up) = inl (named_file words fs f rs is up)
+goes_speaks words o e calls o' e' k named source (course.refused fs ss rs r all b) = (fs, ss, b, refl, refl)
+goes_speaks words o e calls o' e' k named source (course.accepted fs ss rs n s is all h) = tt
+goes_speaks words o e calls o' e' k named source (course.unwritten fs rs c h) = (fs, h.is_run, refl)
+goes_speaks words o e calls o' e' k named source (course.gone fs rs c h) = inr (fs, h.is_run, refl)
+goes_speaks words o e calls o' e' k named source (course.unread_back fs rs c h) = inr (fs, h.is_run, refl)
+goes_speaks words o e calls o' e' k named source (course.c_refused fs rs c b r h a) = (fs, h.is_run, refl)
+goes_speaks words o e calls o' e' k named source (course.ran fs rs c b unit p q l n t h a r) = (ran_so unit (world_of fs) o o' e e' k r).speaks words named source
+goes_speaks words o e calls o' e' k named source (course.memory cs n s p) = tt
 
 -- 6. Its calls
 
-pub course_planned : (file : List ℕ) (o e : SinkView) (calls : List Call) (o' e' : SinkView) (k : Kind) (named source : List ℕ) → Course file o e calls o' e' k named source → IsPlanned file calls
-course_planned file o e calls o' e' k named source course.no_file = course.source (Err fault.Missing)
-course_planned file o e calls o' e' k named source course.unread = course.source (Err fault.Failed)
-course_planned file o e calls o' e' k named source (course.refused s r rest b) = course.source (Ok s)
-course_planned file o e calls o' e' k named source (course.unwritten s c h) = course.written s c (Err fault.Failed) h
-course_planned file o e calls o' e' k named source (course.gone s c h) = course.back s c (Err fault.Missing) h
-course_planned file o e calls o' e' k named source (course.unread_back s c h) = course.back s c (Err fault.Failed) h
-course_planned file o e calls o' e' k named source (course.c_refused s c b r h a) = course.back s c (Ok b) h
-course_planned file o e calls o' e' k named source (course.ran s c b unit p q l n t h a r) = course.back s c (Ok b) h
-course_planned file o e calls o' e' k named source (course.memory cs n s p) = p
+-- all files are a front of them
+pub whole : (files sources : List (List ℕ)) (reads : List Call) → AllRead files sources reads → FrontRead files reads
+whole files sources reads all = record { front = files; behind = []; files_are = sym (append-nil files); sources = sources; all_read = all }
 
--- the calls that leave an entry
-abbrev pub entries : List Call → List Call
-entries [] = []
-entries (Read name answer ∷ calls) = entry_of_read name answer ++ entries calls
-entries (Write name bytes answer ∷ calls) = entry_of_write name bytes answer ++ entries calls
+pub goes_planned : (words : List (List ℕ)) (o e : SinkView) (calls : List Call) (o' e' : SinkView) (k : Kind) (named source : List ℕ) → Goes words o e calls o' e' k named source → IsPlanned words calls
+goes_planned words o e calls o' e' k named source (course.usage n s none) = course.none
+goes_planned words o e calls o' e' k named source (course.no_file fs f rs is up) = course.unread fs f rs fault.Missing is up
+goes_planned words o e calls o' e' k named source (course.unread fs f rs is up) = course.unread fs f rs fault.Failed is up
+goes_planned words o e calls o' e' k named source (course.refused fs ss rs r all b) = course.reads fs rs (named_by words fs ss r b) (whole fs ss rs all)
+goes_planned words o e calls o' e' k named source (course.accepted fs ss rs n s is all h) = course.reads fs rs (inr is) (whole fs ss rs all)
+goes_planned words o e calls o' e' k named source (course.unwritten fs rs c h) = course.written fs rs c (Err fault.Failed) h
+goes_planned words o e calls o' e' k named source (course.gone fs rs c h) = course.back fs rs c (Err fault.Missing) h
+goes_planned words o e calls o' e' k named source (course.unread_back fs rs c h) = course.back fs rs c (Err fault.Failed) h
+goes_planned words o e calls o' e' k named source (course.c_refused fs rs c b r h a) = course.back fs rs c (Ok b) h
+goes_planned words o e calls o' e' k named source (course.ran fs rs c b unit p q l n t h a r) = course.back fs rs c (Ok b) h
+goes_planned words o e calls o' e' k named source (course.memory cs n s p) = p
 
 -- the last call, and the last that leaves an entry
 abbrev pub LastIs : List Call → Call → Type 0
@@ -257,15 +269,21 @@ last_unwritten calls name bytes l =
       if_unwritten = λ other bytes e. inl refl;
     }
 
-last_read : (calls : List Call) (name bytes named : List ℕ) (k : Kind) → last_of (entries calls) ≡ Some (Read name (Ok bytes)) → k ≢ kind.NoFile → k ≢ kind.ReadFault → k ≢ kind.WriteFault → FaultsSo calls k named
-last_read calls name bytes named k l a b c =
+fine_not : (o : Option Call) (name : List ℕ) (x : FolderFault) → IsFine o → o ≡ Some (Read name (Err x)) → ⊥
+fine_not o name x fine e = subst IsFine e fine
+
+fine_no_write : (o : Option Call) (name bytes : List ℕ) (x : FolderFault) → IsFine o → o ≡ Some (Write name bytes (Err x)) → ⊥
+fine_no_write o name bytes x fine e = subst IsFine e fine
+
+last_fine : (calls : List Call) (named : List ℕ) (k : Kind) → IsFine (last_of (entries calls)) → k ≢ kind.NoFile → k ≢ kind.ReadFault → k ≢ kind.WriteFault → FaultsSo calls k named
+last_fine calls named k l a b c =
     record {
       no_file = λ h. absurd (a h);
       read_fault = λ h. absurd (b h);
       write_fault = λ h. absurd (c h);
-      if_missing = λ other e. cc;
-      if_unread = λ other e. cc;
-      if_unwritten = λ other bytes e. cc;
+      if_missing = λ other e. absurd (fine_not (last_of (entries calls)) other fault.Missing l e);
+      if_unread = λ other e. absurd (fine_not (last_of (entries calls)) other fault.Failed l e);
+      if_unwritten = λ other bytes e. absurd (fine_no_write (last_of (entries calls)) other bytes fault.Failed l e);
     }
 
 without_memory : (calls : List Call) (named : List ℕ) → FaultsSo calls kind.Memory named
@@ -279,91 +297,99 @@ without_memory calls named =
       if_unwritten = λ other bytes e. inr refl;
     }
 
-without_calls : (named : List ℕ) → FaultsSo [] kind.Usage named
-without_calls named =
-    record {
-      no_file = λ h. cc;
-      read_fault = λ h. cc;
-      write_fault = λ h. cc;
-      if_missing = λ other e. cc;
-      if_unread = λ other e. cc;
-      if_unwritten = λ other bytes e. cc;
-    }
-
 -- a status that no run has
 pub not_of_run : (k l : Kind) → IsOfRun k ⊎ (k ≡ kind.Memory) → (IsOfRun l → ⊥) → l ≢ kind.Memory → k ≢ l
 not_of_run k l (inl r) a b h = a (subst IsOfRun h r)
 not_of_run k l (inr m) a b h = b (sym h ∙ m)
 
-ran_faults : (calls : List Call) (name bytes named : List ℕ) (k : Kind) → last_of (entries calls) ≡ Some (Read name (Ok bytes)) → IsOfRun k ⊎ (k ≡ kind.Memory) → FaultsSo calls k named
-ran_faults calls name bytes named k l r =
-    last_read calls name bytes named k l (not_of_run k kind.NoFile r (λ x. x) (λ h. cc)) (not_of_run k kind.ReadFault r (λ x. x) (λ h. cc)) (not_of_run k kind.WriteFault r (λ x. x) (λ h. cc))
+-- the last call, behind the reads
+last_after : (files sources : List (List ℕ)) (reads more : List Call) (x : Call) (xs : List Call) → AllRead files sources reads → entries more ≡ x ∷ xs → last_of (entries (reads ++ more)) ≡ last_of (x ∷ xs)
+last_after files sources reads more x xs all e = ap last_of (entries_behind files sources reads more all ∙ ap (λ l. reads ++ l) e) ∙ last_behind None reads x xs
 
-pub course_faults : (file : List ℕ) (o e : SinkView) (calls : List Call) (o' e' : SinkView) (k : Kind) (named source : List ℕ) → Course file o e calls o' e' k named source → FaultsSo calls k named
-course_faults file o e calls o' e' k named source course.no_file = last_missing _ file (refl, refl)
-course_faults file o e calls o' e' k named source course.unread = last_unread _ file (refl, refl)
-course_faults file o e calls o' e' k named source (course.refused s r rest b) = last_read _ file s named (kind.Refused r) refl (λ h. cc) (λ h. cc) (λ h. cc)
-course_faults file o e calls o' e' k named source (course.unwritten s c h) = last_unwritten _ (c_file file) c (refl, refl)
-course_faults file o e calls o' e' k named source (course.gone s c h) = last_missing _ (c_file file) (refl, refl)
-course_faults file o e calls o' e' k named source (course.unread_back s c h) = last_unread _ (c_file file) (refl, refl)
-course_faults file o e calls o' e' k named source (course.c_refused s c b r h a) = last_read _ (c_file file) b named (kind.CRefused r) refl (λ h. cc) (λ h. cc) (λ h. cc)
-course_faults file o e calls o' e' k named source (course.ran s c b unit p q l n t h a r) = ran_faults _ (c_file file) b named k refl (ran_so unit (world_of file) o o' e e' k r).is_of_run
-course_faults file o e calls o' e' k named source (course.memory cs n s p) = without_memory cs named
+-- it is a read of all files, or the C that was read back
+fine_reads : (files sources : List (List ℕ)) (reads : List Call) → AllRead files sources reads → IsFine (last_of (entries reads))
+fine_reads files sources reads all = subst (λ l. IsFine (last_of l)) (sym (entries_same files sources reads all)) (last_read None files sources reads tt all)
+
+fine_back : (words files : List (List ℕ)) (reads : List Call) (c bytes : List ℕ) → IsBuilt words files reads c → IsFine (last_of (entries (reads ++ Write (c_file files) c (Ok tt) ∷ Read (c_file files) (Ok bytes) ∷ [])))
+fine_back words files reads c bytes h =
+    let w = Write (c_file files) c (Ok tt) in
+    let r = Read (c_file files) (Ok bytes) in
+    subst IsFine (sym (last_after files h.sources reads (w ∷ r ∷ []) w (r ∷ []) h.all_read refl)) tt
+
+one_last : (files sources : List (List ℕ)) (reads : List Call) (x : Call) → AllRead files sources reads → entries (x ∷ []) ≡ x ∷ [] → LastIs (reads ++ x ∷ []) x
+one_last files sources reads x all e = (last_behind None reads x [], last_after files sources reads (x ∷ []) x [] all e)
+
+two_last : (files sources : List (List ℕ)) (reads : List Call) (y x : Call) → AllRead files sources reads → entries (y ∷ x ∷ []) ≡ y ∷ x ∷ [] → LastIs (reads ++ y ∷ x ∷ []) x
+two_last files sources reads y x all e = (last_behind None reads y (x ∷ []), last_after files sources reads (y ∷ x ∷ []) y (x ∷ []) all e)
+
+pub goes_faults : (words : List (List ℕ)) (o e : SinkView) (calls : List Call) (o' e' : SinkView) (k : Kind) (named source : List ℕ) → Goes words o e calls o' e' k named source → FaultsSo calls k named
+goes_faults words o e calls o' e' k named source (course.usage n s none) = last_fine [] named kind.Usage tt (λ h. cc) (λ h. cc) (λ h. cc)
+goes_faults words o e calls o' e' k named source (course.no_file fs f rs is up) = last_missing _ f (one_last up.front up.sources rs (Read f (Err fault.Missing)) up.all_read refl)
+goes_faults words o e calls o' e' k named source (course.unread fs f rs is up) = last_unread _ f (one_last up.front up.sources rs (Read f (Err fault.Failed)) up.all_read refl)
+goes_faults words o e calls o' e' k named source (course.refused fs ss rs r all b) = last_fine rs named (kind.Refused r) (fine_reads fs ss rs all) (λ h. cc) (λ h. cc) (λ h. cc)
+goes_faults words o e calls o' e' k named source (course.accepted fs ss rs n s is all h) = last_fine rs named (kind.Ended (pos 0)) (fine_reads fs ss rs all) (λ h. cc) (λ h. cc) (λ h. cc)
+goes_faults words o e calls o' e' k named source (course.unwritten fs rs c h) = last_unwritten _ (c_file fs) c (one_last fs h.sources rs (Write (c_file fs) c (Err fault.Failed)) h.all_read refl)
+goes_faults words o e calls o' e' k named source (course.gone fs rs c h) = last_missing _ (c_file fs) (two_last fs h.sources rs (Write (c_file fs) c (Ok tt)) (Read (c_file fs) (Err fault.Missing)) h.all_read refl)
+goes_faults words o e calls o' e' k named source (course.unread_back fs rs c h) = last_unread _ (c_file fs) (two_last fs h.sources rs (Write (c_file fs) c (Ok tt)) (Read (c_file fs) (Err fault.Failed)) h.all_read refl)
+goes_faults words o e calls o' e' k named source (course.c_refused fs rs c b r h a) = last_fine _ named (kind.CRefused r) (fine_back words fs rs c b h) (λ h. cc) (λ h. cc) (λ h. cc)
+goes_faults words o e calls o' e' k named source (course.ran fs rs c b unit p q l n t h a r) =
+    let of = (ran_so unit (world_of fs) o o' e e' k r).is_of_run in
+    last_fine _ named k (fine_back words fs rs c b h) (not_of_run k kind.NoFile of (λ x. x) (λ h. cc)) (not_of_run k kind.ReadFault of (λ x. x) (λ h. cc)) (not_of_run k kind.WriteFault of (λ x. x) (λ h. cc))
+goes_faults words o e calls o' e' k named source (course.memory cs n s p) = without_memory cs named
 
 not_usage : (k : Kind) → IsOfRun k ⊎ (k ≡ kind.Memory) → k ≢ kind.Usage
 not_usage k r = not_of_run k kind.Usage r (λ x. x) (λ h. cc)
 
-course_no_usage : (file : List ℕ) (o e : SinkView) (calls : List Call) (o' e' : SinkView) (k : Kind) (named source : List ℕ) → Course file o e calls o' e' k named source → k ≢ kind.Usage
-course_no_usage file o e calls o' e' k named source course.no_file = λ h. cc
-course_no_usage file o e calls o' e' k named source course.unread = λ h. cc
-course_no_usage file o e calls o' e' k named source (course.refused s r rest b) = λ h. cc
-course_no_usage file o e calls o' e' k named source (course.unwritten s c h) = λ h. cc
-course_no_usage file o e calls o' e' k named source (course.gone s c h) = λ h. cc
-course_no_usage file o e calls o' e' k named source (course.unread_back s c h) = λ h. cc
-course_no_usage file o e calls o' e' k named source (course.c_refused s c b r h a) = λ h. cc
-course_no_usage file o e calls o' e' k named source (course.ran s c b unit p q l n t h a r) = not_usage k (ran_so unit (world_of file) o o' e e' k r).is_of_run
-course_no_usage file o e calls o' e' k named source (course.memory cs n s p) = λ h. cc
+-- a call of words that name files
+pub record WordsSo (words : List (List ℕ)) (o o' : SinkView) (calls : List Call) (k : Kind) : Type 0 where
+  pub usage : k ≡ kind.Usage → IsOutside words × (calls ≡ [])
+  pub outside : IsOutside words → ((k ≡ kind.Usage) ⊎ (k ≡ kind.Memory)) × (calls ≡ [])
+  pub checked : (files : List (List ℕ)) → IsCheck words files → IsOfCheck k × (o' ≡ o)
 
--- the words make one file
-pub one_file : (words : List (List ℕ)) (a b : List ℕ) → IsRun words a → IsRun words b → a ≡ b
-one_file words a b p q = cc (sym p.words_are ∙ q.words_are)
+-- the words name files, and nothing runs
+named_so : (words files : List (List ℕ)) (o : SinkView) (calls : List Call) (k : Kind) → NamesFiles words files → k ≢ kind.Usage → IsOfCheck k → WordsSo words o o calls k
+named_so words files o calls k is not of = record { usage = λ h. absurd (not h); outside = λ h. absurd (h files is); checked = λ fs c. (of, refl) }
+
+-- or they are those of a run
+run_so : (words files : List (List ℕ)) (o o' : SinkView) (calls : List Call) (k : Kind) → IsRun words files → k ≢ kind.Usage → WordsSo words o o' calls k
+run_so words files o o' calls k is not = record { usage = λ h. absurd (not h); outside = λ h. absurd (h files (inl is)); checked = λ fs c. one_command words files fs is c }
+
+planned_outside : (words : List (List ℕ)) (calls : List Call) → IsOutside words → IsPlanned words calls → calls ≡ []
+planned_outside words calls h course.none = refl
+planned_outside words calls h (course.reads fs rs is up) = absurd (h fs is)
+planned_outside words calls h (course.unread fs f rs x is up) = absurd (h fs is)
+planned_outside words calls h (course.written fs rs c a b) = absurd (h fs (inl b.is_run))
+planned_outside words calls h (course.back fs rs c a b) = absurd (h fs (inl b.is_run))
+
+pub goes_words : (words : List (List ℕ)) (o e : SinkView) (calls : List Call) (o' e' : SinkView) (k : Kind) (named source : List ℕ) → Goes words o e calls o' e' k named source → WordsSo words o o' calls k
+goes_words words o e calls o' e' k named source (course.usage n s none) = record { usage = λ h. (none, refl); outside = λ h. (inl refl, refl); checked = λ fs c. absurd (none fs (inr c)) }
+goes_words words o e calls o' e' k named source (course.no_file fs f rs is up) = named_so words fs o calls kind.NoFile is (λ h. cc) tt
+goes_words words o e calls o' e' k named source (course.unread fs f rs is up) = named_so words fs o calls kind.ReadFault is (λ h. cc) tt
+goes_words words o e calls o' e' k named source (course.refused fs ss rs r all b) = named_so words fs o calls (kind.Refused r) (named_by words fs ss r b) (λ h. cc) tt
+goes_words words o e calls o' e' k named source (course.accepted fs ss rs n s is all h) = named_so words fs o calls (kind.Ended (pos 0)) (inr is) (λ h. cc) refl
+goes_words words o e calls o' e' k named source (course.unwritten fs rs c h) = run_so words fs o o calls kind.WriteFault h.is_run (λ h. cc)
+goes_words words o e calls o' e' k named source (course.gone fs rs c h) = run_so words fs o o calls kind.NoFile h.is_run (λ h. cc)
+goes_words words o e calls o' e' k named source (course.unread_back fs rs c h) = run_so words fs o o calls kind.ReadFault h.is_run (λ h. cc)
+goes_words words o e calls o' e' k named source (course.c_refused fs rs c b r h a) = run_so words fs o o calls (kind.CRefused r) h.is_run (λ h. cc)
+goes_words words o e calls o' e' k named source (course.ran fs rs c b unit p q l n t h a r) = run_so words fs o o' calls k h.is_run (not_usage k (ran_so unit (world_of fs) o o' e e' k r).is_of_run)
+goes_words words o e calls o' e' k named source (course.memory cs n s p) = record { usage = λ h. cc; outside = λ h. (inr refl, planned_outside words calls h p); checked = λ fs c. (tt, refl) }
 
 -- all of this of a call on any words
 pub record CallSo (words : List (List ℕ)) (o e : SinkView) (calls : List Call) (o' e' : SinkView) (k : Kind) (named source : List ℕ) : Type 0 where
   pub sinks : SinksSo o o' e e' k
   pub speaks : SpeaksOf words k named source
   pub faults : FaultsSo calls k named
-  pub planned : (file : List ℕ) → IsRun words file → IsPlanned file calls
-  pub usage : k ≡ kind.Usage → IsOutside words × (calls ≡ [])
-  pub outside : IsOutside words → ((k ≡ kind.Usage) ⊎ (k ≡ kind.Memory)) × (calls ≡ [])
+  pub planned : IsPlanned words calls
+  pub on_words : WordsSo words o o' calls k
 
 pub call_so : (words : List (List ℕ)) (o e : SinkView) (calls : List Call) (o' e' : SinkView) (k : Kind) (named source : List ℕ) → Goes words o e calls o' e' k named source → CallSo words o e calls o' e' k named source
-call_so words o e calls o' e' k named source (course.usage n s none) =
+call_so words o e calls o' e' k named source goes =
     record {
-      sinks = untouched o e kind.Usage (λ h. cc);
-      speaks = tt;
-      faults = without_calls named;
-      planned = λ file is. course.none;
-      usage = λ h. (none, refl);
-      outside = λ h. (inl refl, refl);
-    }
-call_so words o e calls o' e' k named source (course.memory n s) =
-    record {
-      sinks = untouched o e kind.Memory memory_no_fault;
-      speaks = tt;
-      faults = without_memory [] named;
-      planned = λ file is. course.none;
-      usage = λ h. cc;
-      outside = λ h. (inr refl, refl);
-    }
-call_so words o e calls o' e' k named source (course.run file cs p q l n s is goes) =
-    record {
-      sinks = course_sinks file o e calls o' e' k named source goes;
-      speaks = course_speaks words file o e calls o' e' k named source is goes;
-      faults = course_faults file o e calls o' e' k named source goes;
-      planned = λ other is2. subst (λ x. IsPlanned x calls) (one_file words file other is is2) (course_planned file o e calls o' e' k named source goes);
-      usage = λ h. absurd (course_no_usage file o e calls o' e' k named source goes h);
-      outside = λ h. absurd (h file is);
+      sinks = goes_sinks words o e calls o' e' k named source goes;
+      speaks = goes_speaks words o e calls o' e' k named source goes;
+      faults = goes_faults words o e calls o' e' k named source goes;
+      planned = goes_planned words o e calls o' e' k named source goes;
+      on_words = goes_words words o e calls o' e' k named source goes;
     }
 
 -- 7. The counts of the folder
@@ -446,6 +472,11 @@ line_so answer named source e mid e' k l le nothing (inl (is, inl put)) e2 not =
 line_so answer named source e mid e' k l le nothing (inl (is, inr rose)) e2 not = inr (rose_before e.faults mid.faults e'.faults le rose)
 line_so answer named source e mid e' k l le nothing (inr m) e2 not = absurd (not (sym e2 ∙ m))
 
+-- the status of a check is one
+checked_status : (answer : Kind) (named source : List ℕ) (e e' : SinkView) (k : Kind) → Told answer named source e e' k → IsOfCheck answer → IsOfCheck k
+checked_status answer named source e e' k (inl t) h = subst IsOfCheck (sym t.0) h
+checked_status answer named source e e' k (inr m) h = subst IsOfCheck (sym m) tt
+
 pub causes : (words : List (List ℕ)) (f f' : FolderView) (o o' e e' : SinkView) (status : Status) → IsCall words f f' o o' e e' status → Causes words f f' o o' e e' status
 causes words f f' o o' e e' status call =
     let so = call_so words o e call.calls o' call.middle call.answer call.named call.source call.goes in
@@ -455,8 +486,8 @@ causes words f f' o o' e e' status call =
     let was = answered call.answer call.named call.source call.middle e' status.kind in
     record {
       code = call.finishes.code;
-      usage = λ h. (so.usage (was kind.Usage end h (λ x. cc))).0;
-      outside = λ h. in_status call.answer call.named call.source call.middle e' status.kind kind.Usage end (so.outside h).0;
+      usage = λ h. (so.on_words.usage (was kind.Usage end h (λ x. cc))).0;
+      outside = λ h. in_status call.answer call.named call.source call.middle e' status.kind kind.Usage end (so.on_words.outside h).0;
       no_file = λ h. (let l = so.faults.no_file (was kind.NoFile end h (λ x. cc)) in chain_raises f call.calls f' _ call.chain l.0);
       read_fault = λ h. (let l = so.faults.read_fault (was kind.ReadFault end h (λ x. cc)) in chain_raises f call.calls f' _ call.chain l.0);
       write_fault = λ h. (let l = so.faults.write_fault (was kind.WriteFault end h (λ x. cc)) in chain_raises f call.calls f' _ call.chain l.1.0);
@@ -466,5 +497,6 @@ causes words f f' o o' e e' status call =
       out_faults = so.sinks.out_faults;
       err_faults = (let a = so.sinks.err_faults in omega arith);
       said = said_so words call.answer call.named call.source e call.middle e' status.kind so.speaks so.sinks.err_faults so.sinks.nothing end;
+      checked = λ files is. (let h = so.on_words.checked files is in (checked_status call.answer call.named call.source call.middle e' status.kind end h.0, h.1));
       silent = silent_so call.answer call.named call.source o o' e call.middle e' status.kind so.sinks end;
     }

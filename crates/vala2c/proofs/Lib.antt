@@ -1,6 +1,10 @@
 pub mod Names
-pub mod Calls
 pub mod Quiet
+pub mod FirstOfList
+pub mod Numbered
+pub mod Reading
+pub mod Rules
+pub mod Calls
 pub mod Causes
 pub mod ToldCalls
 pub mod ToldFiles

@@ -1,5 +1,5 @@
--- The program of the file runs: from the theorem on the compiler to what is seen of a call.
-use Rattle.std.proofs.Common.{◌≡◌, ◌≢◌, ℕ, ◌+◌, ◌-◌, ◌≤◌, List, [], ◌∷◌, ◌++◌, length, Some, Ok, false, refl, sym, ap, ◌∙◌, subst, inl, inr, ◌⊎◌, arith, append-nil, length-append}
+-- The program of the files runs: from the theorem on the compiler to what is seen of a call.
+use Rattle.std.proofs.Common.{◌≡◌, ◌≢◌, ℕ, ◌+◌, ◌-◌, ◌≤◌, List, [], ◌∷◌, ◌++◌, length, Some, Ok, false, refl, sym, ap, ◌∙◌, subst, inl, inr, ◌⊎◌, arith, append-nil, length-append, pos}
 use Rattle.std.proofs.lemmas.Bool.{cases_lt}
 use Rattle.vg_base.specs.declared.outside.Call.{Call}
 use Rattle.vg_base.specs.declared.event.Stream.{Stream}
@@ -23,21 +23,23 @@ use Rattle.c_reader.specs.Dialect.{Texts, Answers, CReads}
 use Rattle.c_reader.specs.Dialect as reading
 use Rattle.c_reader.specs.CMeaning.{CRun, c_meaning, c_opening}
 use Rattle.c_reader.proofs.Reading.{one_unit}
-use Rattle.vala_compile.specs.Program.{Program, Reads}
+use Rattle.vala_compile.specs.Carried.{Program}
+use Rattle.vala_compile.specs.Program.{Reads}
 use Rattle.vala_compile.specs.VMeaning.{VRun}
 use Rattle.vala_compile.specs.Correct.{IsCompiled}
 use Rattle.vala_compile.proofs.Counts.{program_within, unit_within}
 use Rattle.vala2c.specs.declared.status.Kind.{Kind}
 use Rattle.vala2c.specs.declared.status.Kind.TheVariants as kind
 use Rattle.vala2c.specs.declared.status.Status.{Status}
-use Rattle.vala2c.specs.Words.{IsRun, c_file, world_of}
+use Rattle.vala2c.specs.Words.{IsRun, IsCheck, first_of, c_file, world_of}
 use Rattle.vala2c.specs.Status.{line_of, kind_of_end}
-use Rattle.vala2c.specs.Course.{Chain, TakesAll, TakesFront, Ran, Course, Goes, IsCall, budget, prints_out}
+use Rattle.vala2c.specs.Course.{Chain, TakesAll, TakesFront, Ran, Goes, IsCall, budget, prints_out}
 use Rattle.vala2c.specs.Course as course
-use Rattle.vala2c.specs.Causes.{TakesLine, IsOfRun, IsOfEnd, IsProgramOf, kind_of_program_end, ProgramEnds, ProgramPrints, RunsProgram, ProgramTold}
+use Rattle.vala2c.specs.Causes.{AreOfRun, Hold, TakesLine, IsOfRun, IsOfEnd, IsProgramOf, kind_of_program_end, ProgramEnds, ProgramPrints, RunsProgram, ProgramTold}
 use Rattle.vala2c.proofs.Names.{name_is}
 use Rattle.vala2c.proofs.Causes.{ran_so, Told, told, call_so, rose_before}
-use Rattle.vala2c.proofs.ToldFiles.{After, all_three, one_content}
+use Rattle.vala2c.proofs.Reading.{After, one_command}
+use Rattle.vala2c.proofs.ToldFiles.{all_calls, one_content}
 
 -- 1. Two runs that meet
 
@@ -98,22 +100,22 @@ prints_met program unit w limit s h =
 
 -- 2. The unit that was read back is that of the program
 
-pub record UnitOf (source : List ℕ) (w : World) (unit : Texts) : Type 0 where
+pub record UnitOf (sources : List (List ℕ)) (w : World) (unit : Texts) : Type 0 where
   pub program : Program
-  pub is_program : Reads (source ∷ []) program
+  pub is_program : Reads sources program
   pub same : Headline (VRun program w) (CRun unit w)
 
 read_unit : (bytes : List ℕ) (limit : ℕ) (unit : Texts) → Answers bytes limit (Ok unit) → CReads bytes unit
 read_unit bytes limit unit (reading.unit _ small h) = h
 
-pub unit_of : (source c bytes : List ℕ) (w : World) (limit : ℕ) (unit : Texts) → IsWorld w → IsCompiled (source ∷ []) false c → bytes ≡ c → Answers bytes limit (Ok unit) → UnitOf source w unit
-unit_of source c bytes w limit unit world h same a =
+pub unit_of : (sources : List (List ℕ)) (c bytes : List ℕ) (w : World) (limit : ℕ) (unit : Texts) → IsWorld w → IsCompiled sources false c → bytes ≡ c → Answers bytes limit (Ok unit) → UnitOf sources w unit
+unit_of sources c bytes w limit unit world h same a =
     let is : CReads c unit = subst (λ b. CReads b unit) same (read_unit bytes limit unit a) in
     let e : h.unit ≡ unit = one_unit c h.unit unit h.is_unit is in
     record { program = h.program; is_program = h.is_program; same = subst (λ x. Headline (VRun h.program w) (CRun x w)) e (h.same w world) }
 
-pub world_is : (file : List ℕ) → IsWorld (world_of file)
-world_is file = record { name = name_is file; input = tt; entries = tt; few = omega arith }
+pub world_is : (names : List (List ℕ)) → IsWorld (world_of names)
+world_is names = record { name = name_is (first_of names); input = tt; entries = tt; few = omega arith }
 
 -- 3. Statuses
 
@@ -172,6 +174,9 @@ fault_defined d h = cc
 memory_defined : (d : UndefKind) → kind.Memory ≢ kind.Undefined d
 memory_defined d h = cc
 
+ended_defined : (d : UndefKind) → kind.Ended (pos 0) ≢ kind.Undefined d
+ended_defined d h = cc
+
 no_end_defined : (k : Kind) (d : UndefKind) → NoEnd k → k ≢ kind.Undefined d
 no_end_defined k d (inl e) h = spent_defined d (sym e ∙ h)
 no_end_defined k d (inr (inl e)) h = fault_defined d (sym e ∙ h)
@@ -179,35 +184,35 @@ no_end_defined k d (inr (inr e)) h = memory_defined d (sym e ∙ h)
 
 -- 5. What a call says before its message line
 
--- the program of the file ended; nothing of the message line is said yet
+-- the program of the files ended; nothing of the message line is said yet
 pub record EndsBefore (words : List (List ℕ)) (files : Files) (o o' e e' : SinkView) (k : Kind) : Type 0 where
-  pub file : List ℕ
+  pub names : List (List ℕ)
   pub program : Program
-  pub is_program : IsProgramOf words files file program
+  pub is_program : IsProgramOf words files names program
   pub steps : ℕ
   pub end : VEnd
-  pub ended : (VRun program (world_of file)).ended steps ≡ Some end
+  pub ended : (VRun program (world_of names)).ended steps ≡ Some end
   pub status : k ≡ kind_of_program_end end
-  pub out : Takes o (printed stream.Out ((VRun program (world_of file)).trace steps)) o'
-  pub err : Takes e (printed stream.Err ((VRun program (world_of file)).trace steps)) e'
+  pub out : Takes o (printed stream.Out ((VRun program (world_of names)).trace steps)) o'
+  pub err : Takes e (printed stream.Err ((VRun program (world_of names)).trace steps)) e'
 
 pub record ProgramSo (words : List (List ℕ)) (files : Files) (o o' e e' : SinkView) (k : Kind) : Type 0 where
-  pub ends : IsOfEnd k → EndsBefore words files o o' e e' k
-  pub prints : IsOfRun k → ProgramPrints words files o o'
+  pub ends : AreOfRun words → IsOfEnd k → EndsBefore words files o o' e e' k
+  pub prints : AreOfRun words → IsOfRun k → ProgramPrints words files o o'
   pub only : (o' ≡ o) ⊎ ProgramPrints words files o o'
   pub defined : (d : UndefKind) → k ≢ kind.Undefined d
 
-program_of : (words : List (List ℕ)) (files : Files) (file source : List ℕ) (unit : Texts) → IsRun words file → files file ≡ Some source → (x : UnitOf source (world_of file) unit) → IsProgramOf words files file x.program
-program_of words files file source unit is holds x =
-    record { source = source; is_source = record { is_run = is; holds = holds }; is_program = x.is_program }
+program_of : (words : List (List ℕ)) (files : Files) (names sources : List (List ℕ)) (unit : Texts) → IsRun words names → Hold files names sources → (x : UnitOf sources (world_of names) unit) → IsProgramOf words files names x.program
+program_of words files names sources unit is holds x =
+    record { is_run = is; sources = sources; are_sources = holds; is_program = x.is_program }
 
-ends_before : (words : List (List ℕ)) (files : Files) (file source : List ℕ) (unit : Texts) (limit : ℕ) (o o' e e' : SinkView) (k : Kind) → IsRun words file → files file ≡ Some source → UnitOf source (world_of file) unit → ToEnd unit (world_of file) limit o o' e e' k → EndsBefore words files o o' e e' k
-ends_before words files file source unit limit o o' e e' k is holds x t =
-    let met = ends_met x.program unit (world_of file) limit t.end x.same t.is in
+ends_before : (words : List (List ℕ)) (files : Files) (names sources : List (List ℕ)) (unit : Texts) (limit : ℕ) (o o' e e' : SinkView) (k : Kind) → IsRun words names → Hold files names sources → UnitOf sources (world_of names) unit → ToEnd unit (world_of names) limit o o' e e' k → EndsBefore words files o o' e e' k
+ends_before words files names sources unit limit o o' e e' k is holds x t =
+    let met = ends_met x.program unit (world_of names) limit t.end x.same t.is in
     record {
-      file = file;
+      names = names;
       program = x.program;
-      is_program = program_of words files file source unit is holds x;
+      is_program = program_of words files names sources unit is holds x;
       steps = met.steps;
       end = met.program_end;
       ended = met.ended;
@@ -216,66 +221,67 @@ ends_before words files file source unit limit o o' e e' k is holds x t =
       err = subst (λ tr. Takes e (printed stream.Err tr) e') (sym met.trace) t.err;
     }
 
-end_defined : (source : List ℕ) (unit : Texts) (w : World) (limit : ℕ) (o o' e e' : SinkView) (k : Kind) (d : UndefKind) → UnitOf source w unit → ToEnd unit w limit o o' e e' k → k ≢ kind.Undefined d
-end_defined source unit w limit o o' e e' k d x t h =
+end_defined : (sources : List (List ℕ)) (unit : Texts) (w : World) (limit : ℕ) (o o' e e' : SinkView) (k : Kind) (d : UndefKind) → UnitOf sources w unit → ToEnd unit w limit o o' e e' k → k ≢ kind.Undefined d
+end_defined sources unit w limit o o' e e' k d x t h =
     let met = ends_met x.program unit w limit t.end x.same t.is in
     program_defined met.program_end d (sym (t.status ∙ same_status met.program_end t.end met.mates) ∙ h)
 
-program_prints : (words : List (List ℕ)) (files : Files) (file source : List ℕ) (unit : Texts) (limit : ℕ) (o o' : SinkView) → IsRun words file → files file ≡ Some source → UnitOf source (world_of file) unit → TakesFront (printed stream.Out ((CRun unit (world_of file)).trace limit)) o o' → ProgramPrints words files o o'
-program_prints words files file source unit limit o o' is holds x t =
-    let met = prints_met x.program unit (world_of file) limit stream.Out x.same in
+program_prints : (words : List (List ℕ)) (files : Files) (names sources : List (List ℕ)) (unit : Texts) (limit : ℕ) (o o' : SinkView) → IsRun words names → Hold files names sources → UnitOf sources (world_of names) unit → TakesFront (printed stream.Out ((CRun unit (world_of names)).trace limit)) o o' → ProgramPrints words files o o'
+program_prints words files names sources unit limit o o' is holds x t =
+    let met = prints_met x.program unit (world_of names) limit stream.Out x.same in
     record {
-      file = file;
+      names = names;
       program = x.program;
-      is_program = program_of words files file source unit is holds x;
+      is_program = program_of words files names sources unit is holds x;
       steps = met.0;
       front = t.0;
       begins = begins_trans t.0 _ _ t.1 met.1;
       out = t.2;
     }
 
-ran_program : (words : List (List ℕ)) (files : Files) (file source : List ℕ) (unit : Texts) (limit : ℕ) (o o' e e' : SinkView) (k : Kind) → IsRun words file → files file ≡ Some source → UnitOf source (world_of file) unit → TakesFront (printed stream.Out ((CRun unit (world_of file)).trace limit)) o o' → ToEnd unit (world_of file) limit o o' e e' k ⊎ NoEnd k → ProgramSo words files o o' e e' k
-ran_program words files file source unit limit o o' e e' k is holds x t (inl end) =
-    let p = program_prints words files file source unit limit o o' is holds x t in
+ran_program : (words : List (List ℕ)) (files : Files) (names sources : List (List ℕ)) (unit : Texts) (limit : ℕ) (o o' e e' : SinkView) (k : Kind) → IsRun words names → Hold files names sources → UnitOf sources (world_of names) unit → TakesFront (printed stream.Out ((CRun unit (world_of names)).trace limit)) o o' → ToEnd unit (world_of names) limit o o' e e' k ⊎ NoEnd k → ProgramSo words files o o' e e' k
+ran_program words files names sources unit limit o o' e e' k is holds x t (inl end) =
+    let p = program_prints words files names sources unit limit o o' is holds x t in
     record {
-      ends = λ h. ends_before words files file source unit limit o o' e e' k is holds x end;
-      prints = λ h. p;
+      ends = λ of h. ends_before words files names sources unit limit o o' e e' k is holds x end;
+      prints = λ of h. p;
       only = inr p;
-      defined = λ d. end_defined source unit (world_of file) limit o o' e e' k d x end;
+      defined = λ d. end_defined sources unit (world_of names) limit o o' e e' k d x end;
     }
-ran_program words files file source unit limit o o' e e' k is holds x t (inr none) =
-    let p = program_prints words files file source unit limit o o' is holds x t in
+ran_program words files names sources unit limit o o' e e' k is holds x t (inr none) =
+    let p = program_prints words files names sources unit limit o o' is holds x t in
     record {
-      ends = λ h. not_end k none h;
-      prints = λ h. p;
+      ends = λ of h. not_end k none h;
+      prints = λ of h. p;
       only = inr p;
       defined = λ d. no_end_defined k d none;
     }
 
 -- nothing was run
 nothing_ran : (words : List (List ℕ)) (files : Files) (o e : SinkView) (k : Kind) → (IsOfEnd k → ⊥) → (IsOfRun k → ⊥) → ((d : UndefKind) → k ≢ kind.Undefined d) → ProgramSo words files o o e e k
-nothing_ran words files o e k a b c = record { ends = λ h. absurd (a h); prints = λ h. absurd (b h); only = inl refl; defined = c }
+nothing_ran words files o e k a b c = record { ends = λ of h. absurd (a h); prints = λ of h. absurd (b h); only = inl refl; defined = c }
 
-course_program : (words : List (List ℕ)) (files : Files) (file : List ℕ) (f g : FolderView) (o e : SinkView) (calls : List Call) (o' e' : SinkView) (k : Kind) (named source : List ℕ) → IsRun words file → After f files → Chain f calls g → Course file o e calls o' e' k named source → ProgramSo words files o o' e e' k
-course_program words files file f g o e calls o' e' k named source is told chain course.no_file = nothing_ran words files o e kind.NoFile (λ x. x) (λ x. x) (λ d h. cc)
-course_program words files file f g o e calls o' e' k named source is told chain course.unread = nothing_ran words files o e kind.ReadFault (λ x. x) (λ x. x) (λ d h. cc)
-course_program words files file f g o e calls o' e' k named source is told chain (course.refused s r rest b) = nothing_ran words files o e (kind.Refused r) (λ x. x) (λ x. x) (λ d h. cc)
-course_program words files file f g o e calls o' e' k named source is told chain (course.unwritten s c h) = nothing_ran words files o e kind.WriteFault (λ x. x) (λ x. x) (λ d h. cc)
-course_program words files file f g o e calls o' e' k named source is told chain (course.gone s c h) = nothing_ran words files o e kind.NoFile (λ x. x) (λ x. x) (λ d h. cc)
-course_program words files file f g o e calls o' e' k named source is told chain (course.unread_back s c h) = nothing_ran words files o e kind.ReadFault (λ x. x) (λ x. x) (λ d h. cc)
-course_program words files file f g o e calls o' e' k named source is told chain (course.c_refused s c b r h a) = nothing_ran words files o e (kind.CRefused r) (λ x. x) (λ x. x) (λ d h. cc)
-course_program words files file f g o e calls o' e' k named source is told chain (course.ran s c b unit p q l n t h a r) =
-    let w = all_three f g files file s c (Ok b) told chain in
-    let same = one_content (w.after (c_file file)) b c w.honest w.written in
-    let x = unit_of s c b (world_of file) (length c) unit (world_is file) h same a in
-    ran_program words files file s unit budget o o' e e' k is w.holds x (ran_so unit (world_of file) o o' e e' k r).out (to_end unit (world_of file) o o' e e' k r)
-course_program words files file f g o e calls o' e' k named source is told chain (course.memory cs n s p) = nothing_ran words files o e kind.Memory (λ x. x) (λ x. x) memory_defined
+-- a check ran nothing
+check_ran : (words names : List (List ℕ)) (files : Files) (o e : SinkView) → IsCheck words names → ProgramSo words files o o e e (kind.Ended (pos 0))
+check_ran words names files o e is =
+    record { ends = λ of h. one_command words of.0 names of.1 is; prints = λ of h. one_command words of.0 names of.1 is; only = inl refl; defined = λ d. ended_defined d }
 
 goes_program : (words : List (List ℕ)) (files : Files) (f g : FolderView) (o e : SinkView) (calls : List Call) (o' e' : SinkView) (k : Kind) (named source : List ℕ) → After f files → Chain f calls g → Goes words o e calls o' e' k named source → ProgramSo words files o o' e e' k
 goes_program words files f g o e calls o' e' k named source told chain (course.usage n s none) = nothing_ran words files o e kind.Usage (λ x. x) (λ x. x) (λ d h. cc)
-goes_program words files f g o e calls o' e' k named source told chain (course.memory n s) = nothing_ran words files o e kind.Memory (λ x. x) (λ x. x) memory_defined
-goes_program words files f g o e calls o' e' k named source told chain (course.run file cs p q l n s is goes) =
-    course_program words files file f g o e calls o' e' k named source is told chain goes
+goes_program words files f g o e calls o' e' k named source told chain (course.no_file ns file rs is up) = nothing_ran words files o e kind.NoFile (λ x. x) (λ x. x) (λ d h. cc)
+goes_program words files f g o e calls o' e' k named source told chain (course.unread ns file rs is up) = nothing_ran words files o e kind.ReadFault (λ x. x) (λ x. x) (λ d h. cc)
+goes_program words files f g o e calls o' e' k named source told chain (course.refused ns ss rs r all b) = nothing_ran words files o e (kind.Refused r) (λ x. x) (λ x. x) (λ d h. cc)
+goes_program words files f g o e calls o' e' k named source told chain (course.accepted ns ss rs n s is all a) = check_ran words ns files o e is
+goes_program words files f g o e calls o' e' k named source told chain (course.unwritten ns rs c h) = nothing_ran words files o e kind.WriteFault (λ x. x) (λ x. x) (λ d h. cc)
+goes_program words files f g o e calls o' e' k named source told chain (course.gone ns rs c h) = nothing_ran words files o e kind.NoFile (λ x. x) (λ x. x) (λ d h. cc)
+goes_program words files f g o e calls o' e' k named source told chain (course.unread_back ns rs c h) = nothing_ran words files o e kind.ReadFault (λ x. x) (λ x. x) (λ d h. cc)
+goes_program words files f g o e calls o' e' k named source told chain (course.c_refused ns rs c b r h a) = nothing_ran words files o e (kind.CRefused r) (λ x. x) (λ x. x) (λ d h. cc)
+goes_program words files f g o e calls o' e' k named source told chain (course.ran ns rs c b unit p q l n t h a r) =
+    let w = all_calls f g files ns h.sources c (Ok b) rs h.all_read told chain in
+    let same = one_content (w.after (c_file ns)) b c w.honest w.written in
+    let x = unit_of h.sources c b (world_of ns) (length c) unit (world_is ns) h.compiled same a in
+    ran_program words files ns h.sources unit budget o o' e e' k h.is_run w.holds x (ran_so unit (world_of ns) o o' e e' k r).out (to_end unit (world_of ns) o o' e e' k r)
+goes_program words files f g o e calls o' e' k named source told chain (course.memory cs n s p) = nothing_ran words files o e kind.Memory (λ x. x) (λ x. x) memory_defined
 
 -- 6. The clause
 
@@ -286,7 +292,7 @@ line_heard printed_err line line' e mid e' same le took (inr rose) = inr (rose_b
 ends_behind : (words : List (List ℕ)) (files : Files) (o o' e mid e' : SinkView) (k : Kind) (named source : List ℕ) → IsOfEnd k → e.faults ≤ mid.faults → EndsBefore words files o o' e mid k → TakesLine (line_of k named source) mid e' → ProgramEnds words files o o' e e' k
 ends_behind words files o o' e mid e' k named source is le x heard =
     record {
-      file = x.file;
+      names = x.names;
       program = x.program;
       is_program = x.is_program;
       steps = x.steps;
@@ -294,7 +300,7 @@ ends_behind words files o o' e mid e' k named source is le x heard =
       ended = x.ended;
       status = x.status;
       out = x.out;
-      err = line_heard (printed stream.Err ((VRun x.program (world_of x.file)).trace x.steps)) (line_of k named source) (line_of k [] []) e mid e' (end_line k named source is) le x.err heard;
+      err = line_heard (printed stream.Err ((VRun x.program (world_of x.names)).trace x.steps)) (line_of k named source) (line_of k [] []) e mid e' (end_line k named source is) le x.err heard;
     }
 
 finished : (words : List (List ℕ)) (files : Files) (o o' e mid e' : SinkView) (answer k : Kind) (named source : List ℕ) → e.faults ≤ mid.faults → ProgramSo words files o o' e mid answer → Told answer named source mid e' k → RunsProgram words files o o' e e' k
@@ -302,15 +308,15 @@ finished words files o o' e mid e' answer k named source le so (inl t) =
     let here : ProgramSo words files o o' e mid k = subst (ProgramSo words files o o' e mid) (sym t.0) so in
     let heard : TakesLine (line_of k named source) mid e' = subst (λ a. TakesLine (line_of a named source) mid e') (sym t.0) t.1 in
     record {
-      ends = λ h. ends_behind words files o o' e mid e' k named source h le (here.ends h) heard;
+      ends = λ of h. ends_behind words files o o' e mid e' k named source h le (here.ends of h) heard;
       prints = here.prints;
       only = here.only;
       defined = here.defined;
     }
 finished words files o o' e mid e' answer k named source le so (inr m) =
     record {
-      ends = λ h. absurd (subst IsOfEnd m h);
-      prints = λ h. absurd (subst IsOfRun m h);
+      ends = λ of h. absurd (subst IsOfEnd m h);
+      prints = λ of h. absurd (subst IsOfRun m h);
       only = so.only;
       defined = λ d h. memory_defined d (sym m ∙ h);
     }

@@ -1,6 +1,6 @@
 -- What follows of one call, in plain words: what its status tells of the words, the calls, the files and the program.
-use Rattle.std.specs.Prelude.{◌≡◌, ◌≢◌, ℕ, ◌≤◌, List, [], ◌∷◌, ◌++◌, Option, Some, None, Ok, Err, ◌⊎◌, false}
-use Rattle.std.specs.List.{last_or}
+use Rattle.std.specs.Prelude.{◌≡◌, ◌≢◌, ℕ, ◌≤◌, List, [], ◌∷◌, ◌++◌, map, get_or, Option, Some, None, Ok, Err, ◌⊎◌, false, pos}
+use Rattle.std.specs.List.{last_or, All, Contains}
 use Rattle.vg_base.specs.declared.outside.FolderFault.{FolderFault}
 use Rattle.vg_base.specs.declared.outside.FolderFault.TheVariants as fault
 use Rattle.vg_base.specs.declared.outside.Call.{Call}
@@ -13,33 +13,47 @@ use Rattle.vg_base.specs.Outside.{Files, FolderView, SinkView, AddsCalls, Takes,
 use Rattle.vg_base.specs.Run.{Begins}
 use Rattle.vg_base.specs.Headline.{printed}
 use Rattle.c_reader.specs.declared.refusal.CRefusal.{CRefusal}
-use Rattle.vala_compile.specs.declared.refusal.Refusal.{Refusal}
-use Rattle.vala_compile.specs.Program.{Program, Reads, Breaks}
+use Rattle.static_rules.specs.declared.rules.Refusal.{Refusal}
+use Rattle.vala_compile.specs.Carried.{Program}
+use Rattle.vala_compile.specs.Program.{AreRead, Reads}
 use Rattle.vala_compile.specs.VMeaning.{VRun}
 use Rattle.vala_compile.specs.Correct.{IsCompiled}
 use Rattle.vala2c.specs.declared.status.Kind.{Kind}
 use Rattle.vala2c.specs.declared.status.Kind.TheVariants as kind
 use Rattle.vala2c.specs.declared.status.Status.{Status}
-use Rattle.vala2c.specs.Words.{IsRun, c_file, world_of}
+use Rattle.vala2c.specs.Words.{IsRun, IsCheck, NamesFiles, c_file, world_of}
 use Rattle.vala2c.specs.Status.{line_of, exit_byte}
-use Rattle.vala2c.specs.Course.{IsPlanned}
+use Rattle.vala2c.specs.Course.{AllRead, IsBuilt, IsRefusal, IsPlanned}
 
 -- 1. What a status tells of the words and the counts, and what is said
 
--- no file makes the words `run FILE`
+-- the words are neither `check FILE..` nor `run FILE..`
 abbrev pub IsOutside : List (List ℕ) → Type 0
-IsOutside words = (file : List ℕ) → IsRun words file → ⊥
+IsOutside words = (files : List (List ℕ)) → NamesFiles words files → ⊥
 
--- the C file of the words
+-- they are `run FILE..`
+abbrev pub AreOfRun : List (List ℕ) → Type 0
+AreOfRun words = (files : List (List ℕ)) × IsRun words files
+
+-- one of the files that the words name
+abbrev pub IsFileOf : List (List ℕ) → List ℕ → Type 0
+IsFileOf words name = (files : List (List ℕ)) × NamesFiles words files × Contains files name
+
+-- the C file that the words write
 abbrev pub IsCFile : List (List ℕ) → List ℕ → Type 0
-IsCFile words name = (file : List ℕ) × IsRun words file × (name ≡ c_file file)
+IsCFile words name = (files : List (List ℕ)) × IsRun words files × (name ≡ c_file files)
 
--- What a message line speaks of: the file of the words or its C file, and the source that breaks a rule.
+-- the file in which a rule is broken and its source, by its number
+abbrev pub IsPlaceOf : List (List ℕ) → Refusal → List ℕ → List ℕ → Type 0
+IsPlaceOf words r named source =
+    (files : List (List ℕ)) × (sources : List (List ℕ)) × IsRefusal words files sources r × (named ≡ get_or files r.span.file []) × (source ≡ get_or sources r.span.file [])
+
+-- What a message line speaks of: a file of the words or the C file, and the source that breaks a rule.
 abbrev pub SpeaksOf : List (List ℕ) → Kind → List ℕ → List ℕ → Type 0
-SpeaksOf words kind.NoFile named source = IsRun words named ⊎ IsCFile words named
-SpeaksOf words kind.ReadFault named source = IsRun words named ⊎ IsCFile words named
+SpeaksOf words kind.NoFile named source = IsFileOf words named ⊎ IsCFile words named
+SpeaksOf words kind.ReadFault named source = IsFileOf words named ⊎ IsCFile words named
 SpeaksOf words kind.WriteFault named source = IsCFile words named
-SpeaksOf words (kind.Refused r) named source = IsRun words named × ((rest : List Refusal) × Breaks (source ∷ []) false (r ∷ rest))
+SpeaksOf words (kind.Refused r) named source = IsPlaceOf words r named source
 SpeaksOf words (kind.CRefused r) named source = IsCFile words named
 SpeaksOf words k named source = Unit {0}
 
@@ -62,6 +76,15 @@ IsOfRun kind.Dead = Unit {0}
 IsOfRun (kind.Undefined k) = Unit {0}
 IsOfRun k = ⊥
 
+-- the statuses of a check
+abbrev pub IsOfCheck : Kind → Type 0
+IsOfCheck (kind.Ended code) = code ≡ pos 0
+IsOfCheck kind.NoFile = Unit {0}
+IsOfCheck kind.ReadFault = Unit {0}
+IsOfCheck (kind.Refused r) = Unit {0}
+IsOfCheck kind.Memory = Unit {0}
+IsOfCheck k = ⊥
+
 -- What each status tells. Only want of memory is tied to no cause.
 pub record Causes (words : List (List ℕ)) (f f' : FolderView) (o o' e e' : SinkView) (status : Status) : Type 0 where
   pub code : status.code ≡ exit_byte status.kind
@@ -82,6 +105,8 @@ pub record Causes (words : List (List ℕ)) (f f' : FolderView) (o o' e e' : Sin
   pub said : Says words status.kind e e' ⊎ (Rose e.faults e'.faults ⊎ (status.kind ≡ kind.Memory))
   -- out takes nothing where no C was run
   pub silent : (IsOfRun status.kind → ⊥) → status.kind ≢ kind.Memory → o' ≡ o
+  -- a check runs nothing
+  pub checked : (files : List (List ℕ)) → IsCheck words files → IsOfCheck status.kind × (o' ≡ o)
 
 -- 2. The calls on the folder
 
@@ -97,33 +122,30 @@ FailsToRead added answer k e e' = (name : List ℕ) × (last_of added ≡ Some (
 abbrev pub FailsToWrite : List Call → SinkView → SinkView → Type 0
 FailsToWrite added e e' = (name : List ℕ) × (bytes : List ℕ) × (last_of added ≡ Some (Write name bytes (Err fault.Failed))) × TakesLine (line_of kind.WriteFault name []) e e'
 
--- The file of the words was read, its source breaks this rule first, and there was no other call. The message line gives the
--- place in that source.
+-- The files of the words were read, their sources break this rule first, and there was no other call. The message line gives the
+-- place in the source of the file that has the number.
 pub record RefusedOf (words : List (List ℕ)) (added : List Call) (r : Refusal) (e e' : SinkView) : Type 0 where
-  pub file : List ℕ
-  pub is_run : IsRun words file
-  pub source : List ℕ
-  pub rest : List Refusal
-  pub breaks : Breaks (source ∷ []) false (r ∷ rest)
-  pub one_read : added ≡ Read file (Ok source) ∷ []
-  pub line : TakesLine (line_of (kind.Refused r) file source) e e'
+  pub files : List (List ℕ)
+  pub sources : List (List ℕ)
+  pub is_refusal : IsRefusal words files sources r
+  pub all_read : AllRead files sources added
+  pub line : TakesLine (line_of (kind.Refused r) (get_or files r.span.file []) (get_or sources r.span.file [])) e e'
 
--- the file was read, the C of its source was written, and the C file was read
-pub record ThreeCalls (words : List (List ℕ)) (added : List Call) : Type 0 where
-  pub file : List ℕ
-  pub is_run : IsRun words file
-  pub source : List ℕ
+-- the files were read, the C of their program was written, and the C file was read
+pub record CallsOfRun (words : List (List ℕ)) (added : List Call) : Type 0 where
+  pub files : List (List ℕ)
+  pub reads : List Call
   pub c : List ℕ
   pub bytes : List ℕ
-  pub compiled : IsCompiled (source ∷ []) false c
-  pub all : added ≡ Read file (Ok source) ∷ Write (c_file file) c (Ok tt) ∷ Read (c_file file) (Ok bytes) ∷ []
+  pub is_built : IsBuilt words files reads c
+  pub all : added ≡ reads ++ Write (c_file files) c (Ok tt) ∷ Read (c_file files) (Ok bytes) ∷ []
 
 -- The calls that the folder tells behind this one, and what their answers and the status tell of each other.
 pub record ToldCalls (words : List (List ℕ)) (f f' : FolderView) (e e' : SinkView) (status : Status) : Type 0 where
   pub added : List Call
   pub told : AddsCalls f added f'
   -- they are a front of the plan, and all but the last were answered Ok
-  pub planned : (file : List ℕ) → IsRun words file → IsPlanned file added
+  pub planned : IsPlanned words added
   pub outside : IsOutside words → added ≡ []
   pub usage : status.kind ≡ kind.Usage → added ≡ []
   -- a fault is that of the last call
@@ -135,10 +157,14 @@ pub record ToldCalls (words : List (List ℕ)) (f f' : FolderView) (e e' : SinkV
   pub if_unwritten : (name bytes : List ℕ) → last_of added ≡ Some (Write name bytes (Err fault.Failed)) → (status.kind ≡ kind.WriteFault) ⊎ (status.kind ≡ kind.Memory)
   -- a broken rule
   pub refused : (r : Refusal) → status.kind ≡ kind.Refused r → RefusedOf words added r e e'
-  pub if_broken : (file source : List ℕ) (more : List Call) (r : Refusal) (rest : List Refusal) → IsRun words file → added ≡ Read file (Ok source) ∷ more → Breaks (source ∷ []) false (r ∷ rest) → (status.kind ≡ kind.Refused r) ⊎ (status.kind ≡ kind.Memory)
+  pub if_broken : (files sources : List (List ℕ)) (reads more : List Call) (r : Refusal) → AllRead files sources reads → added ≡ reads ++ more → IsRefusal words files sources r
+      → (status.kind ≡ kind.Refused r) ⊎ (status.kind ≡ kind.Memory)
+  -- a check ends where no rule of phase 1 is broken
+  pub accepted : (files : List (List ℕ)) (code : _) → IsCheck words files → status.kind ≡ kind.Ended code → (sources : List (List ℕ)) × AllRead files sources added × AreRead sources
+  pub if_accepted : (files sources : List (List ℕ)) → IsCheck words files → AllRead files sources added → AreRead sources → (status.kind ≡ kind.Ended (pos 0)) ⊎ (status.kind ≡ kind.Memory)
   -- the C was read back before it was refused or run
-  pub c_refused : (r : CRefusal) → status.kind ≡ kind.CRefused r → ThreeCalls words added
-  pub ran : IsOfRun status.kind → ThreeCalls words added
+  pub c_refused : (r : CRefusal) → status.kind ≡ kind.CRefused r → CallsOfRun words added
+  pub ran : AreOfRun words → IsOfRun status.kind → CallsOfRun words added
 
 -- 3. The files of a folder that tells them
 
@@ -149,19 +175,27 @@ WritesNothing kind.NoFile = Unit {0}
 WritesNothing (kind.Refused r) = Unit {0}
 WritesNothing k = ⊥
 
--- the file of the words holds this source
-pub record IsSource (words : List (List ℕ)) (files : Files) (file source : List ℕ) : Type 0 where
-  pub is_run : IsRun words file
-  pub holds : files file ≡ Some source
+-- the files of these names hold these sources
+abbrev pub Hold : Files → List (List ℕ) → List (List ℕ) → Type 0
+Hold files names sources = map files names ≡ map Some sources
 
--- the C file holds the C of the source
+-- the C file holds the C of the sources
 pub record HoldsC (words : List (List ℕ)) (files after : Files) : Type 0 where
-  pub file : List ℕ
-  pub source : List ℕ
-  pub is_source : IsSource words files file source
+  pub names : List (List ℕ)
+  pub is_run : IsRun words names
+  pub sources : List (List ℕ)
+  pub are_sources : Hold files names sources
   pub c : List ℕ
-  pub compiled : IsCompiled (source ∷ []) false c
-  pub holds : after (c_file file) ≡ Some c
+  pub compiled : IsCompiled sources false c
+  pub holds : after (c_file names) ≡ Some c
+
+-- What a call says of the files before and behind: what was read is what they held, what was written is what they hold, and
+-- nothing changed where a source was not read.
+abbrev pub IsHonest : List (List ℕ) → Files → Files → Call → Type 0
+IsHonest words files after (Read name (Ok bytes)) = ((IsCFile words name → ⊥) → files name ≡ Some bytes) × (IsCFile words name → after name ≡ Some bytes)
+IsHonest words files after (Read name (Err x)) = (IsCFile words name → ⊥) → after ≡ files
+IsHonest words files after (Write name bytes (Ok u)) = after name ≡ Some bytes
+IsHonest words files after (Write name bytes (Err x)) = Unit {0}
 
 -- `Refused r`, or what may stand in its place: the file was not read, or memory ran out
 abbrev pub RefusedUnless : Refusal → Kind → Type 0
@@ -171,26 +205,28 @@ RefusedUnless r k = (k ≡ kind.Refused r) ⊎ ((k ≡ kind.ReadFault) ⊎ (k �
 pub record ToldFiles (words : List (List ℕ)) (files : Files) (f f' : FolderView) (status : Status) : Type 0 where
   pub after : Files
   pub told : f'.files ≡ Some after
-  -- its calls, which it tells too: what was read is what the files held, what was written is what they hold,
-  -- and nothing changed where the first read was refused
+  -- its calls, which it tells too
   pub added : List Call
   pub told_calls : AddsCalls f added f'
-  pub read : (name bytes : List ℕ) (more : List Call) → added ≡ Read name (Ok bytes) ∷ more → files name ≡ Some bytes
-  pub wrote : (first : Call) (name bytes : List ℕ) (more : List Call) → added ≡ first ∷ Write name bytes (Ok tt) ∷ more → after name ≡ Some bytes
-  pub unread : (name : List ℕ) (x : FolderFault) (more : List Call) → added ≡ Read name (Err x) ∷ more → after ≡ files
-  pub planned : (file : List ℕ) → IsRun words file → IsPlanned file added
-  -- no file but the C file of the words changes
+  pub honest : All (IsHonest words files after) added
+  pub planned : IsPlanned words added
+  -- no file but the C file of the words changes, and none by a check
   pub others : (name : List ℕ) → (IsCFile words name → ⊥) → after name ≡ files name
   pub same : WritesNothing status.kind → after ≡ files
-  -- what was run is the C of the source, and the C file holds it
-  pub written : IsOfRun status.kind → HoldsC words files after
+  pub checked : (names : List (List ℕ)) → IsCheck words names → after ≡ files
+  -- what was run is the C of the sources, and the C file holds it
+  pub written : AreOfRun words → IsOfRun status.kind → HoldsC words files after
   -- what was written is read back: it is there, and it is C
   pub never_c_refused : (r : CRefusal) → status.kind ≢ kind.CRefused r
-  pub no_file : status.kind ≡ kind.NoFile → (file : List ℕ) × IsRun words file × (files file ≡ None)
-  pub if_missing : (file : List ℕ) → IsRun words file → files file ≡ None → (status.kind ≡ kind.NoFile) ⊎ ((status.kind ≡ kind.ReadFault) ⊎ (status.kind ≡ kind.Memory))
+  pub no_file : status.kind ≡ kind.NoFile → (name : List ℕ) × IsFileOf words name × (files name ≡ None)
+  pub if_missing : (name : List ℕ) → IsFileOf words name → files name ≡ None → (status.kind ≡ kind.NoFile) ⊎ ((status.kind ≡ kind.ReadFault) ⊎ (status.kind ≡ kind.Memory))
   -- a broken rule
-  pub refused : (r : Refusal) → status.kind ≡ kind.Refused r → (file : List ℕ) × (source : List ℕ) × IsSource words files file source × ((rest : List Refusal) × Breaks (source ∷ []) false (r ∷ rest))
-  pub if_broken : (file source : List ℕ) (r : Refusal) (rest : List Refusal) → IsSource words files file source → Breaks (source ∷ []) false (r ∷ rest) → RefusedUnless r status.kind
+  pub refused : (r : Refusal) → status.kind ≡ kind.Refused r → (names : List (List ℕ)) × (sources : List (List ℕ)) × Hold files names sources × IsRefusal words names sources r
+  pub if_broken : (names sources : List (List ℕ)) (r : Refusal) → Hold files names sources → IsRefusal words names sources r → RefusedUnless r status.kind
+  -- a check ends where no rule of phase 1 is broken
+  pub accepted : (names : List (List ℕ)) (code : _) → IsCheck words names → status.kind ≡ kind.Ended code → (sources : List (List ℕ)) × Hold files names sources × AreRead sources
+  pub if_accepted : (names sources : List (List ℕ)) → IsCheck words names → Hold files names sources → AreRead sources
+      → (status.kind ≡ kind.Ended (pos 0)) ⊎ ((status.kind ≡ kind.ReadFault) ⊎ (status.kind ≡ kind.Memory))
 
 -- for a folder that tells its files
 abbrev pub FilesTold : List (List ℕ) → FolderView → FolderView → Status → Type 0
@@ -198,11 +234,12 @@ FilesTold words f f' status = (files : Files) → f.files ≡ Some files → Tol
 
 -- 4. The program
 
--- the file of the words holds this program
-pub record IsProgramOf (words : List (List ℕ)) (files : Files) (file : List ℕ) (program : Program) : Type 0 where
-  pub source : List ℕ
-  pub is_source : IsSource words files file source
-  pub is_program : Reads (source ∷ []) program
+-- the files of `run FILE..` hold this program
+pub record IsProgramOf (words : List (List ℕ)) (files : Files) (names : List (List ℕ)) (program : Program) : Type 0 where
+  pub is_run : IsRun words names
+  pub sources : List (List ℕ)
+  pub are_sources : Hold files names sources
+  pub is_program : Reads sources program
 
 -- the status of a program that ends so
 abbrev pub kind_of_program_end : VEnd → Kind
@@ -219,35 +256,35 @@ IsOfEnd (kind.Trapped k) = Unit {0}
 IsOfEnd kind.Dead = Unit {0}
 IsOfEnd k = ⊥
 
--- The program of the file ends after some steps with this status. Out took all that it prints there, and err what it prints on it
+-- The program of the files ends after some steps with this status. Out took all that it prints there, and err what it prints on it
 -- and then the message line, unless a put on it was refused.
 pub record ProgramEnds (words : List (List ℕ)) (files : Files) (o o' e e' : SinkView) (k : Kind) : Type 0 where
-  pub file : List ℕ
+  pub names : List (List ℕ)
   pub program : Program
-  pub is_program : IsProgramOf words files file program
+  pub is_program : IsProgramOf words files names program
   pub steps : ℕ
   pub end : VEnd
-  pub ended : (VRun program (world_of file)).ended steps ≡ Some end
+  pub ended : (VRun program (world_of names)).ended steps ≡ Some end
   pub status : k ≡ kind_of_program_end end
-  pub out : Takes o (printed stream.Out ((VRun program (world_of file)).trace steps)) o'
-  pub err : Takes e (printed stream.Err ((VRun program (world_of file)).trace steps) ++ line_of k [] []) e' ⊎ Rose e.faults e'.faults
+  pub out : Takes o (printed stream.Out ((VRun program (world_of names)).trace steps)) o'
+  pub err : Takes e (printed stream.Err ((VRun program (world_of names)).trace steps) ++ line_of k [] []) e' ⊎ Rose e.faults e'.faults
 
--- out took a front of what the program of the file prints in some number of steps
+-- out took a front of what the program of the files prints in some number of steps
 pub record ProgramPrints (words : List (List ℕ)) (files : Files) (o o' : SinkView) : Type 0 where
-  pub file : List ℕ
+  pub names : List (List ℕ)
   pub program : Program
-  pub is_program : IsProgramOf words files file program
+  pub is_program : IsProgramOf words files names program
   pub steps : ℕ
   pub front : List ℕ
-  pub begins : Begins front (printed stream.Out ((VRun program (world_of file)).trace steps))
+  pub begins : Begins front (printed stream.Out ((VRun program (world_of names)).trace steps))
   pub out : Takes o front o'
 
 -- THE PROGRAM RUNS, from its source to what is seen of it.
 pub record RunsProgram (words : List (List ℕ)) (files : Files) (o o' e e' : SinkView) (k : Kind) : Type 0 where
   -- the status of an end is that of the program's end
-  pub ends : IsOfEnd k → ProgramEnds words files o o' e e' k
+  pub ends : AreOfRun words → IsOfEnd k → ProgramEnds words files o o' e e' k
   -- whatever the status of a run is, nothing was printed that the program does not print
-  pub prints : IsOfRun k → ProgramPrints words files o o'
+  pub prints : AreOfRun words → IsOfRun k → ProgramPrints words files o o'
   -- nor where memory ran out
   pub only : (o' ≡ o) ⊎ ProgramPrints words files o o'
   -- the C never does what has no meaning

@@ -1,5 +1,5 @@
 -- What one call of the program does: its calls on the folder, what its sinks take, and its status.
-use Rattle.std.specs.Prelude.{◌≡◌, ℕ, ◌≤◌, ◌<◌, false, List, [], ◌∷◌, length, take, Some, None, Result, Ok, Err, ◌⊎◌}
+use Rattle.std.specs.Prelude.{◌≡◌, ℕ, ◌≤◌, ◌<◌, false, List, [], ◌∷◌, ◌++◌, length, take, get_or, Some, None, Result, Ok, Err, ◌⊎◌, pos}
 use Rattle.vg_base.specs.declared.outside.FolderFault.{FolderFault}
 use Rattle.vg_base.specs.declared.outside.FolderFault.TheVariants as fault
 use Rattle.vg_base.specs.declared.outside.Call.{Call}
@@ -11,13 +11,13 @@ use Rattle.vg_base.specs.World.{World}
 use Rattle.vg_base.specs.Headline.{printed}
 use Rattle.c_reader.specs.Dialect.{Texts, Answers}
 use Rattle.c_reader.specs.CMeaning.{CRun}
-use Rattle.vala_compile.specs.declared.refusal.Refusal.{Refusal}
-use Rattle.vala_compile.specs.Program.{Breaks}
+use Rattle.static_rules.specs.declared.rules.Refusal.{Refusal}
+use Rattle.vala_compile.specs.Program.{AreRead, Refuses, Breaks}
 use Rattle.vala_compile.specs.Correct.{IsCompiled}
 use Rattle.vala2c.specs.declared.status.Kind.{Kind}
 use Rattle.vala2c.specs.declared.status.Kind.TheVariants as kind
 use Rattle.vala2c.specs.declared.status.Status.{Status}
-use Rattle.vala2c.specs.Words.{IsRun, c_file, world_of}
+use Rattle.vala2c.specs.Words.{IsRun, IsCheck, NamesFiles, c_file, world_of}
 use Rattle.vala2c.specs.Status.{line_of, exit_byte, kind_of_end, unheard}
 
 -- the calls lead from one state of the folder to the other
@@ -51,33 +51,69 @@ pub data Ran (unit : Texts) (w : World) (o o' e e' : SinkView) : Kind → Type 0
   refused : TakesFront (prints_out unit w) o o' → TakesFront (prints_err unit w) e e' → Rose o.faults o'.faults ⊎ Rose e.faults e'.faults → Ran unit w o o' e e' kind.OutFault
   memory : TakesFront (prints_out unit w) o o' → TakesFront (prints_err unit w) e e' → Ran unit w o o' e e' kind.Memory
 
--- The calls that `run FILE` makes on its folder are a front of these: it reads the file, writes the C of the program, and reads it back.
--- All but the last were answered Ok.
-pub data IsPlanned (file : List ℕ) : List Call → Type 0 where
-  none : IsPlanned file []
-  source : (a : Result (List ℕ) FolderFault) → IsPlanned file (Read file a ∷ [])
-  written : (source c : List ℕ) (a : Result (Unit {0}) FolderFault) → IsCompiled (source ∷ []) false c → IsPlanned file (Read file (Ok source) ∷ Write (c_file file) c a ∷ [])
-  back : (source c : List ℕ) (a : Result (List ℕ) FolderFault) → IsCompiled (source ∷ []) false c → IsPlanned file (Read file (Ok source) ∷ Write (c_file file) c (Ok tt) ∷ Read (c_file file) a ∷ [])
+-- These files were read in order, and these are their sources.
+pub data AllRead : List (List ℕ) → List (List ℕ) → List Call → Type 0 where
+  none : AllRead [] [] []
+  one : (file source : List ℕ) (files sources : List (List ℕ)) (calls : List Call) → AllRead files sources calls → AllRead (file ∷ files) (source ∷ sources) (Read file (Ok source) ∷ calls)
 
--- How `run FILE` goes, one case for each place where it stops: its calls on the folder with their answers, its sinks before and behind,
+-- A front of the files was read.
+pub record FrontRead (files : List (List ℕ)) (calls : List Call) : Type 0 where
+  pub front : List (List ℕ)
+  pub behind : List (List ℕ)
+  pub files_are : files ≡ front ++ behind
+  pub sources : List (List ℕ)
+  pub all_read : AllRead front sources calls
+
+-- The files in front of this one were read.
+pub record ReadUpTo (files : List (List ℕ)) (file : List ℕ) (calls : List Call) : Type 0 where
+  pub front : List (List ℕ)
+  pub behind : List (List ℕ)
+  pub files_are : files ≡ front ++ file ∷ behind
+  pub sources : List (List ℕ)
+  pub all_read : AllRead front sources calls
+
+-- All files of `run FILE..` were read, and these are the bytes of the C of their program.
+pub record IsBuilt (words files : List (List ℕ)) (calls : List Call) (c : List ℕ) : Type 0 where
+  pub is_run : IsRun words files
+  pub sources : List (List ℕ)
+  pub all_read : AllRead files sources calls
+  pub compiled : IsCompiled sources false c
+
+-- the first rule that sources break: all rules where they are to run, and those of phase 1 where they are checked
+pub data IsRefusal (words files sources : List (List ℕ)) (r : Refusal) : Type 0 where
+  run : (rest : List Refusal) → IsRun words files → Breaks sources false (r ∷ rest) → IsRefusal words files sources r
+  check : IsCheck words files → Refuses sources r → IsRefusal words files sources r
+
+-- The calls of words on their folder are a front of these: the files are read in order, and `run` writes the C of their program,
+-- and reads it back. All but the last were answered Ok.
+pub data IsPlanned (words : List (List ℕ)) : List Call → Type 0 where
+  none : IsPlanned words []
+  reads : (files : List (List ℕ)) (reads : List Call) → NamesFiles words files → FrontRead files reads → IsPlanned words reads
+  unread : (files : List (List ℕ)) (file : List ℕ) (reads : List Call) (x : FolderFault) → NamesFiles words files → ReadUpTo files file reads → IsPlanned words (reads ++ Read file (Err x) ∷ [])
+  written : (files : List (List ℕ)) (reads : List Call) (c : List ℕ) (a : Result (Unit {0}) FolderFault) → IsBuilt words files reads c → IsPlanned words (reads ++ Write (c_file files) c a ∷ [])
+  back : (files : List (List ℕ)) (reads : List Call) (c : List ℕ) (a : Result (List ℕ) FolderFault) → IsBuilt words files reads c
+      → IsPlanned words (reads ++ Write (c_file files) c (Ok tt) ∷ Read (c_file files) a ∷ [])
+
+-- How a call goes, one case for each place where it stops: its calls on the folder with their answers, its sinks before and behind,
 -- its status before the message line, and the file and the source that this line speaks of.
-pub data Course (file : List ℕ) (o e : SinkView) : List Call → SinkView → SinkView → Kind → List ℕ → List ℕ → Type 0 where
-  no_file : Course file o e (Read file (Err fault.Missing) ∷ []) o e kind.NoFile file []
-  unread : Course file o e (Read file (Err fault.Failed) ∷ []) o e kind.ReadFault file []
-  refused : (source : List ℕ) (r : Refusal) (rest : List Refusal) → Breaks (source ∷ []) false (r ∷ rest) → Course file o e (Read file (Ok source) ∷ []) o e (kind.Refused r) file source
-  unwritten : (source c : List ℕ) → IsCompiled (source ∷ []) false c → Course file o e (Read file (Ok source) ∷ Write (c_file file) c (Err fault.Failed) ∷ []) o e kind.WriteFault (c_file file) []
-  gone : (source c : List ℕ) → IsCompiled (source ∷ []) false c → Course file o e (Read file (Ok source) ∷ Write (c_file file) c (Ok tt) ∷ Read (c_file file) (Err fault.Missing) ∷ []) o e kind.NoFile (c_file file) []
-  unread_back : (source c : List ℕ) → IsCompiled (source ∷ []) false c → Course file o e (Read file (Ok source) ∷ Write (c_file file) c (Ok tt) ∷ Read (c_file file) (Err fault.Failed) ∷ []) o e kind.ReadFault (c_file file) []
-  c_refused : (source c bytes : List ℕ) (r : _) → IsCompiled (source ∷ []) false c → Answers bytes (length c) (Err r) → Course file o e (Read file (Ok source) ∷ Write (c_file file) c (Ok tt) ∷ Read (c_file file) (Ok bytes) ∷ []) o e (kind.CRefused r) (c_file file) []
-  ran : (source c bytes : List ℕ) (unit : Texts) (o' e' : SinkView) (k : Kind) (named spoken_of : List ℕ) → IsCompiled (source ∷ []) false c → Answers bytes (length c) (Ok unit) → Ran unit (world_of file) o o' e e' k → Course file o e (Read file (Ok source) ∷ Write (c_file file) c (Ok tt) ∷ Read (c_file file) (Ok bytes) ∷ []) o' e' k named spoken_of
-  memory : (calls : List Call) (named spoken_of : List ℕ) → IsPlanned file calls → Course file o e calls o e kind.Memory named spoken_of
-
--- any words: those outside the grammar touch nothing
 pub data Goes (words : List (List ℕ)) (o e : SinkView) : List Call → SinkView → SinkView → Kind → List ℕ → List ℕ → Type 0 where
-  usage : (named source : List ℕ) → ((file : List ℕ) → IsRun words file → ⊥) → Goes words o e [] o e kind.Usage named source
-  -- memory may run out before the words are known to be in the grammar
-  memory : (named source : List ℕ) → Goes words o e [] o e kind.Memory named source
-  run : (file : List ℕ) (calls : List Call) (o' e' : SinkView) (k : Kind) (named source : List ℕ) → IsRun words file → Course file o e calls o' e' k named source → Goes words o e calls o' e' k named source
+  -- words outside the grammar touch nothing
+  usage : (named source : List ℕ) → ((files : List (List ℕ)) → NamesFiles words files → ⊥) → Goes words o e [] o e kind.Usage named source
+  no_file : (files : List (List ℕ)) (file : List ℕ) (reads : List Call) → NamesFiles words files → ReadUpTo files file reads → Goes words o e (reads ++ Read file (Err fault.Missing) ∷ []) o e kind.NoFile file []
+  unread : (files : List (List ℕ)) (file : List ℕ) (reads : List Call) → NamesFiles words files → ReadUpTo files file reads → Goes words o e (reads ++ Read file (Err fault.Failed) ∷ []) o e kind.ReadFault file []
+  refused : (files sources : List (List ℕ)) (reads : List Call) (r : Refusal) → AllRead files sources reads → IsRefusal words files sources r
+      → Goes words o e reads o e (kind.Refused r) (get_or files r.span.file []) (get_or sources r.span.file [])
+  accepted : (files sources : List (List ℕ)) (reads : List Call) (named source : List ℕ) → IsCheck words files → AllRead files sources reads → AreRead sources → Goes words o e reads o e (kind.Ended (pos 0)) named source
+  unwritten : (files : List (List ℕ)) (reads : List Call) (c : List ℕ) → IsBuilt words files reads c → Goes words o e (reads ++ Write (c_file files) c (Err fault.Failed) ∷ []) o e kind.WriteFault (c_file files) []
+  gone : (files : List (List ℕ)) (reads : List Call) (c : List ℕ) → IsBuilt words files reads c
+      → Goes words o e (reads ++ Write (c_file files) c (Ok tt) ∷ Read (c_file files) (Err fault.Missing) ∷ []) o e kind.NoFile (c_file files) []
+  unread_back : (files : List (List ℕ)) (reads : List Call) (c : List ℕ) → IsBuilt words files reads c
+      → Goes words o e (reads ++ Write (c_file files) c (Ok tt) ∷ Read (c_file files) (Err fault.Failed) ∷ []) o e kind.ReadFault (c_file files) []
+  c_refused : (files : List (List ℕ)) (reads : List Call) (c bytes : List ℕ) (r : _) → IsBuilt words files reads c → Answers bytes (length c) (Err r)
+      → Goes words o e (reads ++ Write (c_file files) c (Ok tt) ∷ Read (c_file files) (Ok bytes) ∷ []) o e (kind.CRefused r) (c_file files) []
+  ran : (files : List (List ℕ)) (reads : List Call) (c bytes : List ℕ) (unit : Texts) (o' e' : SinkView) (k : Kind) (named source : List ℕ) → IsBuilt words files reads c → Answers bytes (length c) (Ok unit)
+      → Ran unit (world_of files) o o' e e' k → Goes words o e (reads ++ Write (c_file files) c (Ok tt) ∷ Read (c_file files) (Ok bytes) ∷ []) o' e' k named source
+  memory : (calls : List Call) (named source : List ℕ) → IsPlanned words calls → Goes words o e calls o e kind.Memory named source
 
 -- The message line of a status is put: all of it, or a front before a put is refused.
 pub data Closes (line : List ℕ) (k : Kind) (e e' : SinkView) : Kind → Type 0 where

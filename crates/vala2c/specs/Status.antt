@@ -11,8 +11,8 @@ use Rattle.vg_base.specs.declared.event.CEnd.{CEnd}
 use Rattle.vg_base.specs.declared.event.CEnd.TheVariants as c
 use Rattle.c_reader.specs.declared.refusal.CRefusal.{CRefusal}
 use Rattle.c_reader.specs.Dialect.{cause_name, cause_text}
-use Rattle.vala_compile.specs.declared.refusal.Refusal.{Refusal}
-use Rattle.vala_compile.specs.Rules.{printed_of}
+use Rattle.static_rules.specs.declared.rules.Refusal.{Refusal}
+use Rattle.static_rules.specs.Rules.{row_of}
 use Rattle.vala2c.specs.declared.status.Kind.{Kind}
 use Rattle.vala2c.specs.declared.status.Kind.TheVariants as kind
 
@@ -60,7 +60,7 @@ source_place file source at =
 -- `FILE:LINE:COLUMN: RULE TEXT`
 abbrev pub refusal_line : List ℕ → List ℕ → Refusal → List ℕ
 refusal_line file source r =
-    located_line (source_place file source r.span.start) (printed_of r.rule).name (printed_of r.rule).text
+    located_line (source_place file source r.span.start) (row_of r.rule).name (row_of r.rule).text
 
 -- `FILE: byte AT: CAUSE TEXT`
 abbrev pub c_refusal_line : List ℕ → CRefusal → List ℕ

@@ -1,6 +1,6 @@
 -- The words of the command line, and the name that a program is called by.
-use Rattle.std.specs.Prelude.{◌≡◌, ◌≢◌, ℕ, ◌-◌, Bool, false, nat_eq, ◌==◌, if◌then◌else◌, List, [], ◌∷◌, ◌++◌, length, map, take, codes}
-use Rattle.std.specs.List.{after_last, ends_with}
+use Rattle.std.specs.Prelude.{◌≡◌, ◌≢◌, ℕ, ◌-◌, ◌≤◌, ◌⊎◌, Bool, false, nat_eq, ◌==◌, if◌then◌else◌, List, [], ◌∷◌, ◌++◌, length, map, take, codes}
+use Rattle.std.specs.List.{after_last, ends_with, AllByRecursion}
 use Rattle.vg_base.specs.World.{World, is_letter, is_word_byte}
 
 -- the file's part of a word: what stands behind the last `/`
@@ -35,21 +35,43 @@ begins_with_letter (b ∷ bs) = is_letter b
 abbrev pub name_of : List ℕ → List ℕ
 name_of word = take 100 (with_letter (map name_byte (stem (file_part word))))
 
--- the name of its C file
-abbrev pub c_file : List ℕ → List ℕ
-c_file word = name_of word ++ codes ".c"
+-- the word of the first file, by which the program is called
+abbrev pub first_of : List (List ℕ) → List ℕ
+first_of [] = []
+first_of (word ∷ words) = word
+
+-- the name of the C file
+abbrev pub c_file : List (List ℕ) → List ℕ
+c_file files = name_of (first_of files) ++ codes ".c"
 
 -- the world of a run: no input and no script
-abbrev pub world_of : List ℕ → World
-world_of word = record { name = name_of word; input = []; entries = [] }
+abbrev pub world_of : List (List ℕ) → World
+world_of files = record { name = name_of (first_of files); input = []; entries = [] }
 
 -- a word that does not begin with `-`, and is not empty
 abbrev pub IsPlain : List ℕ → Type 0
 IsPlain [] = ⊥
 IsPlain (b ∷ bs) = b ≢ 45
 
--- The words are `run FILE`, and the file is not the C file that would be written.
-pub record IsRun (words : List (List ℕ)) (file : List ℕ) : Type 0 where
-  pub words_are : words ≡ codes "run" ∷ file ∷ []
-  pub plain : IsPlain file
-  pub other : file ≢ c_file file
+-- the most files of a call
+abbrev pub most_files : ℕ
+most_files = 64
+
+-- The words are a command and files, of which there is one at least.
+pub record IsCommand (command : List ℕ) (words files : List (List ℕ)) : Type 0 where
+  pub words_are : words ≡ command ∷ files
+  pub some : 1 ≤ length files
+  pub few : length files ≤ most_files
+  pub plain : AllByRecursion IsPlain files
+
+-- the words are `check FILE..`
+abbrev pub IsCheck : List (List ℕ) → List (List ℕ) → Type 0
+IsCheck words files = IsCommand (codes "check") words files
+
+-- the words are `run FILE..`, and no file is the C file that would be written
+abbrev pub IsRun : List (List ℕ) → List (List ℕ) → Type 0
+IsRun words files = IsCommand (codes "run") words files × AllByRecursion (λ file. file ≢ c_file files) files
+
+-- the words name these files
+abbrev pub NamesFiles : List (List ℕ) → List (List ℕ) → Type 0
+NamesFiles words files = IsRun words files ⊎ IsCheck words files

@@ -1,19 +1,22 @@
 // One call of the program: from its words, over the folder and the sinks, to its status.
 
-ghost use Rattle.std.specs.Prelude.{◌≡◌, map, []};
+ghost use Rattle.std.specs.Prelude.{◌≡◌, map, [], List, ℕ, get_or};
 ghost use Rattle.std.specs.String.{string_bytes};
 ghost use Rattle.vg_base.specs.World.{IsName};
-ghost use Rattle.vala2c.specs.Words.{c_file, name_of, world_of};
+ghost use Rattle.vg_base.specs.Outside.{SinkView};
+ghost use Rattle.vala2c.specs.Words.{IsCheck, IsRun, c_file, first_of, name_of};
 ghost use Rattle.vala2c.specs.Causes.{Causes, FilesTold, ProgramTold, ToldCalls};
-ghost use Rattle.vala2c.specs.Course.{CallBy, Closes, Course, Finishes, IsCall, Ran};
-ghost use Rattle.vala2c.specs.Stages.{BackCalls, Stage, Written, read_kind, write_kind};
+ghost use Rattle.vala2c.specs.Course.{CallBy, Closes, Finishes, Goes, IsCall, Ran};
+ghost use Rattle.vala2c.specs.Stages.{BackCalls, Stage, Written, write_kind};
 
+use crate::sources::{kind_of_read, read_files, source_at, word_at};
 use crate::status::{Kind, Status, kind_of, message, when_unheard};
-use crate::words::{c_file_of, file_word, name_in};
+use crate::words::{c_file_of, files_of, first_word, name_in, none_is};
 use c_machine::{RunEnd, RunFault, load};
 use c_reader::{CUnit, read};
+use static_rules::Refusal;
 use std::alloc::Global;
-use vala_compile::compile;
+use vala_compile::{check, compile};
 use vg_base::{Fault, Folder, FolderFault, PutFault, Sink, put_all};
 
 /// How many steps a run may have.
@@ -48,49 +51,70 @@ fn one_call<F: Folder, O: Sink, E: Sink>(
 ) -> Status
     ensures call { IsCall (map string_bytes words.now) (F.seen folder.old) (F.seen folder.new) (O.seen out.old) (O.seen out.new) (E.seen err.old) (E.seen err.new) result }
 {
-    let Some(file) = file_word(words) else {
+    if let Some(files) = files_of(words, "check") {
+        return check_files(alloc, files, folder, err);
+    }
+    let Some(files) = files_of(words, "run") else {
         return finish(alloc, Kind::Usage, "", &[], err);
     };
-    let Ok(name) = name_in(alloc, file) else {
+    let Ok(name) = name_in(alloc, first_word(files)) else {
         return finish(alloc, Kind::Memory, "", &[], err);
     };
     let Ok(target) = c_file_of(alloc, name.as_str()) else {
         return finish(alloc, Kind::Memory, "", &[], err);
     };
-    if file == target.as_str() {
-        return finish(alloc, Kind::Usage, "", &[], err);
+    if none_is(files, target.as_str()) {
+        run_files(alloc, files, target.as_str(), name, folder, out, err)
+    } else {
+        finish(alloc, Kind::Usage, "", &[], err)
     }
-    run_file(alloc, file, target.as_str(), name, folder, out, err)
 }
 
-// `run FILE`: the name and the C file are those of the file.
-fn run_file<F: Folder, O: Sink, E: Sink>(
+// `check FILE..`: nothing is written, and nothing runs.
+fn check_files<F: Folder, E: Sink>(
     alloc: Global,
-    file: &str,
+    files: &[String],
+    folder: &mut F,
+    err: &mut E,
+) -> Status
+    ensures { (words : List (List ℕ)) (o : SinkView) → IsCheck words (map string_bytes files.now) → CallBy (Goes words o (E.seen err.old)) (F.seen folder.old) (F.seen folder.new) o (E.seen err.new) result }
+{
+    let sources = match read_files(alloc, files, folder) {
+        Ok(sources) => sources,
+        Err(unread) => return finish(alloc, unread.kind, unread.file, &[], err),
+    };
+    match check(alloc, &sources, false) {
+        Ok(()) => finish(alloc, Kind::Ended(0), "", &[], err),
+        Err(Fault::Refused(refusal)) => finish_refused(alloc, refusal, files, &sources, err),
+        Err(Fault::Memory) => finish(alloc, Kind::Memory, "", &[], err),
+    }
+}
+
+// `run FILE..`: the name and the C file are those of the files.
+fn run_files<F: Folder, O: Sink, E: Sink>(
+    alloc: Global,
+    files: &[String],
     target: &str,
     name: String,
     folder: &mut F,
     out: &mut O,
     err: &mut E,
 ) -> Status
-    requires named { string_bytes name ≡ name_of file.now }
-    requires target { target.now ≡ c_file file.now }
-    ensures { CallBy (Course file.now (O.seen out.old) (E.seen err.old)) (F.seen folder.old) (F.seen folder.new) (O.seen out.new) (E.seen err.new) result }
+    requires named { string_bytes name ≡ name_of (first_of (map string_bytes files.now)) }
+    requires target { target.now ≡ c_file (map string_bytes files.now) }
+    ensures { (words : List (List ℕ)) → IsRun words (map string_bytes files.now) → CallBy (Goes words (O.seen out.old) (E.seen err.old)) (F.seen folder.old) (F.seen folder.new) (O.seen out.new) (E.seen err.new) result }
 {
-    let source = match folder.read_file(alloc, file) {
-        Ok(source) => source,
-        Err(fault) => return finish(alloc, kind_of_read(fault), file, &[], err),
+    let sources = match read_files(alloc, files, folder) {
+        Ok(sources) => sources,
+        Err(unread) => return finish(alloc, unread.kind, unread.file, &[], err),
     };
-    let files = [source];
-    match compile(alloc, &files, name.as_str(), false) {
+    match compile(alloc, &sources, name.as_str(), false) {
         Ok(emitted) => {
             let kind = write_and_run(alloc, target, &emitted.c, name, folder, out, err);
             finish(alloc, kind, target, &[], err)
         }
-        Err(Fault::Refused(refusal)) => {
-            finish(alloc, Kind::Refused(refusal), file, &files[0], err)
-        }
-        Err(Fault::Memory) => finish(alloc, Kind::Memory, file, &[], err),
+        Err(Fault::Refused(refusal)) => finish_refused(alloc, refusal, files, &sources, err),
+        Err(Fault::Memory) => finish(alloc, Kind::Memory, "", &[], err),
     }
 }
 
@@ -159,16 +183,6 @@ fn run_unit<O: Sink, E: Sink>(
     }
 }
 
-fn kind_of_read(fault: FolderFault) -> Kind
-    ensures { result ≡ read_kind fault }
-{
-    match fault {
-        FolderFault::Missing => Kind::NoFile,
-        FolderFault::Failed => Kind::ReadFault,
-        FolderFault::Memory => Kind::Memory,
-    }
-}
-
 fn kind_of_write(fault: FolderFault) -> Kind
     ensures { result ≡ write_kind fault }
 {
@@ -176,6 +190,27 @@ fn kind_of_write(fault: FolderFault) -> Kind
         FolderFault::Missing | FolderFault::Failed => Kind::WriteFault,
         FolderFault::Memory => Kind::Memory,
     }
+}
+
+// A broken rule is said with the place in the source of its file.
+fn finish_refused<E: Sink>(
+    alloc: Global,
+    refusal: Refusal,
+    files: &[String],
+    sources: &[Vec<u8>],
+    err: &mut E,
+) -> Status
+    ensures { Finishes (Kind.Refused refusal) (get_or (map string_bytes files.now) refusal.span.file []) (get_or (map (λ s. s.items) sources.now) refusal.span.file []) (E.seen err.old) (E.seen err.new) result }
+{
+    let number = refusal.span.file;
+    let source = source_at(sources, number);
+    finish(
+        alloc,
+        Kind::Refused(refusal),
+        word_at(files, number),
+        source,
+        err,
+    )
 }
 
 // The answer is said on err, and the status tells it.

@@ -1,8 +1,9 @@
-// The program vala2c: it compiles Vala to C and runs the C that it wrote.
+// The program vala2c: it checks Vala, compiles it to C and runs the C that it wrote.
 #![tactic(auto)]
 
 mod call;
 mod real;
+mod sources;
 mod status;
 #[cfg(test)]
 mod tests;

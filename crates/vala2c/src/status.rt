@@ -7,8 +7,8 @@ ghost use Rattle.vala2c.specs.Status.{line_of, exit_byte, kind_of_end, unheard, 
 
 use crate::words::{after_last_byte, front};
 use c_reader::{CRefusal, cause_name, cause_text};
+use static_rules::{Refusal, rule_name, rule_text};
 use std::alloc::{AllocError, Global};
-use vala_compile::{Refusal, rule_name, rule_text};
 use vg_base::{CEnd, TrapKind, UndefKind};
 
 /// How a call of the program ended.

@@ -16,20 +16,21 @@ fn words(alloc: Global, all: &[&str]) -> Result<Vec<String>, AllocError> {
     Ok(words)
 }
 
-// A call over a folder with one file that never fails, and its two outputs.
+// A call over a folder with these files that never fails, and its two outputs.
 fn call(
     alloc: Global,
     all: &[&str],
-    name: &str,
-    text: &str,
+    files: &[(&str, &str)],
 ) -> Result<(Status, GoodSink, GoodSink), AllocError> {
     let words = words(alloc, all)?;
     let mut folder = GoodFolder::new(alloc);
     let mut out = GoodSink::new(alloc);
     let mut err = GoodSink::new(alloc);
-    let Ok(()) = folder.add(alloc, name, text.as_bytes()) else {
-        return Err(AllocError);
-    };
+    for (name, text) in files {
+        let Ok(()) = folder.add(alloc, name, text.as_bytes()) else {
+            return Err(AllocError);
+        };
+    }
     let status = vala2c(alloc, &words, &mut folder, &mut out, &mut err);
     Ok((status, out, err))
 }
@@ -46,7 +47,8 @@ fn programs_run(rt: HostRuntime) -> Result<(), Fail> {
         ("void main(){}", ""),
         ("\tvoid\nmain\r(\u{c})\n{ print(\"\") ; }\n", ""),
     ] {
-        let (status, out, err) = call(alloc, &["run", "a.vala"], "a.vala", text)?;
+        let files = [("a.vala", "// no program\n"), ("b.vala", text)];
+        let (status, out, err) = call(alloc, &["run", "a.vala", "b.vala"], &files)?;
         assert!(rt;
             matches!(status.kind, Kind::Ended(0)),
             "{text}: {:?}",
@@ -59,40 +61,60 @@ fn programs_run(rt: HostRuntime) -> Result<(), Fail> {
     Ok(())
 }
 
+const USAGE: &str = "vala2c: bad command line\n";
+
 #[test]
 fn refusals(rt: HostRuntime) -> Result<(), Fail> {
     let alloc = rt.alloc();
+    let files = [
+        ("a.vala", "class A {}"),
+        ("b.vala", HELLO),
+        ("c.vala", "\n }"),
+    ];
     for (all, code, line) in [
         (
             ["run", "a.vala"].as_slice(),
             10,
             "a.vala:1:1: U1 not in this profile\n",
         ),
-        (["run", "b.vala"].as_slice(), 3, "vala2c: no file b.vala\n"),
-        ([].as_slice(), 2, "vala2c: bad command line\n"),
-        (["run"].as_slice(), 2, "vala2c: bad command line\n"),
-        (["run", ""].as_slice(), 2, "vala2c: bad command line\n"),
+        (["check", "a.vala", "b.vala"].as_slice(), 0, ""),
         (
-            ["run", "-a.vala"].as_slice(),
-            2,
-            "vala2c: bad command line\n",
-        ),
-        (["run", "a.c"].as_slice(), 2, "vala2c: bad command line\n"),
-        (
-            ["run", "a.vala", "b.vala"].as_slice(),
-            2,
-            "vala2c: bad command line\n",
+            ["check", "a.vala", "c.vala"].as_slice(),
+            10,
+            "c.vala:2:2: S1 unexpected token\n",
         ),
         (
-            ["check", "a.vala"].as_slice(),
-            2,
-            "vala2c: bad command line\n",
+            ["check", "c.vala", "d.vala"].as_slice(),
+            3,
+            "vala2c: no file d.vala\n",
         ),
+        (["run", "d.vala"].as_slice(), 3, "vala2c: no file d.vala\n"),
+        ([].as_slice(), 2, USAGE),
+        (["run"].as_slice(), 2, USAGE),
+        (["check"].as_slice(), 2, USAGE),
+        (["run", ""].as_slice(), 2, USAGE),
+        (["check", "a.vala", "-b.vala"].as_slice(), 2, USAGE),
+        (["run", "a.vala", "a.c"].as_slice(), 2, USAGE),
+        (["walk", "a.vala"].as_slice(), 2, USAGE),
     ] {
-        let (status, out, err) = call(alloc, all, "a.vala", "class A {}")?;
+        let (status, out, err) = call(alloc, all, &files)?;
         assert_eq!(rt; status.exit_code(), code, "{line}");
         assert_eq!(rt; out.taken(), b"".as_slice(), "{line}");
         assert_eq!(rt; err.taken(), line.as_bytes());
+    }
+    Ok(())
+}
+
+#[test]
+fn at_most_64_files(rt: HostRuntime) -> Result<(), Fail> {
+    let alloc = rt.alloc();
+    for (count, code) in [(64, 0), (65, 2)] {
+        let mut all = vec![in alloc; "check"]?;
+        for _ in 0..count {
+            all.push("a.vala")?;
+        }
+        let (status, _, _) = call(alloc, &all, &[("a.vala", HELLO)])?;
+        assert_eq!(rt; status.exit_code(), code, "{count}");
     }
     Ok(())
 }

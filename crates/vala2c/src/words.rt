@@ -1,12 +1,15 @@
 // The words of the command line, and the name that a program is called by.
 
-ghost use Rattle.std.specs.Prelude.{◌≡◌, ◌==◌, ◌∷◌, [], ◌++◌, IfOk, OnOk, map, take, IsTrue, ◌↔◌, ◌<◌, MatchOption, List, ℕ, codes};
-ghost use Rattle.std.specs.List.{after_last};
+ghost use Rattle.std.specs.Prelude.{◌≡◌, ◌≢◌, ◌==◌, ◌∷◌, ◌++◌, IfOk, OnOk, map, take, IsTrue, ◌↔◌, ◌<◌, ◌≤◌, MatchOption, List, ℕ, codes};
+ghost use Rattle.std.specs.List.{after_last, AllByRecursion};
 ghost use Rattle.std.specs.String.{string_bytes};
 ghost use Rattle.vg_base.specs.World.{is_letter as is_letter_byte};
-ghost use Rattle.vala2c.specs.Words.{name_of, name_byte, with_letter, stem as stem_of, file_part, IsPlain, begins_with_letter as begins_with_letter_byte};
+ghost use Rattle.vala2c.specs.Words.{name_of, name_byte, with_letter, stem as stem_of, file_part, IsPlain, begins_with_letter as begins_with_letter_byte, first_of, most_files, IsCommand};
 
 use std::alloc::{AllocError, Global};
+
+/// The most files of a call.
+const MOST_FILES: usize = 64;
 
 /// What stands behind the last `byte`, or all where there is none.
 pub fn after_last_byte(bytes: &[u8], byte: u8) -> &[u8]
@@ -111,18 +114,60 @@ fn is_plain(word: &str) -> bool
     }
 }
 
-/// The file, where the words are `run FILE`.
-pub fn file_word(words: &[String]) -> Option<&str>
-    ensures { MatchOption result ((file : List ℕ) → map string_bytes words.now ≡ codes "run" ∷ file ∷ [] → IsPlain file → ⊥) (λ file. (map string_bytes words.now ≡ codes "run" ∷ file.now ∷ []) × IsPlain file.now) }
+// Whether no word is empty or an option.
+fn are_plain(words: &[String]) -> bool
+    ensures { IsTrue result ↔ AllByRecursion IsPlain (map string_bytes words.now) }
 {
     match words {
-        [command, file] => {
-            if command.as_str() == "run" && is_plain(file.as_str()) {
-                Some(file.as_str())
+        [] => true,
+        [word, words @ ..] => is_plain(word.as_str()) && are_plain(words),
+    }
+}
+
+/// Whether no word is this name.
+pub fn none_is(words: &[String], name: &str) -> bool
+    ensures { IsTrue result ↔ AllByRecursion (λ word. word ≢ name.now) (map string_bytes words.now) }
+{
+    match words {
+        [] => true,
+        [word, words @ ..] => {
+            if word.as_str() == name {
+                false
+            } else {
+                none_is(words, name)
+            }
+        }
+    }
+}
+
+/// The word of the first file, or nothing where there is none.
+pub fn first_word(files: &[String]) -> &str
+    ensures { result.now ≡ first_of (map string_bytes files.now) }
+{
+    match files {
+        [] => "",
+        [file, ..] => file.as_str(),
+    }
+}
+
+fn is_file_count(count: usize) -> bool
+    ensures { IsTrue result ↔ (1 ≤ count) × (count ≤ most_files) }
+{
+    0 < count && count <= MOST_FILES
+}
+
+/// The files, where the words are this command and 1 to 64 files.
+pub fn files_of<'a>(words: &'a [String], command: &str) -> Option<&'a [String]>
+    ensures { MatchOption result ((files : List (List ℕ)) → IsCommand command.now (map string_bytes words.now) files → ⊥) (λ files. IsCommand command.now (map string_bytes words.now) (map string_bytes files.now)) }
+{
+    match words {
+        [] => None,
+        [first, files @ ..] => {
+            if first.as_str() == command && is_file_count(files.len()) && are_plain(files) {
+                Some(files)
             } else {
                 None
             }
         }
-        _ => None,
     }
 }

@@ -6,7 +6,7 @@ use Rattle.vg_base.specs.World.{World}
 use Rattle.vg_base.specs.Headline.{WithinLimits}
 use Rattle.c_reader.specs.Dialect.{Texts}
 use Rattle.c_reader.specs.CMeaning.{CState, CRun, c_meaning, c_opening}
-use Rattle.vala_compile.specs.Program.{Program}
+use Rattle.vala_compile.specs.Carried.{Program}
 use Rattle.vala_compile.specs.VMeaning.{VState, Living, Item, Call, Statement, Evaluate, PrintGiven, Leave, Value, Literal, Thing, VRun, v_meaning, v_opening, v_next, print_given, most_owned, owners}
 
 print_keeps : (s : VState) (work : List Item) (values : List Value) → (print_given s work values).0.things ≡ s.things

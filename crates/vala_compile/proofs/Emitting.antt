@@ -6,10 +6,10 @@ use Rattle.std.specs.List.{flat_map}
 use Rattle.vg_base.specs.declared.small.Token.{Token}
 use Rattle.vg_base.specs.Small.{Lexes, done, space, sign, word, quoted, include, Denotes, call, spelling}
 use Rattle.c_reader.specs.Dialect.{closing, CReads}
-use Rattle.vala_compile.specs.Program.{Program}
+use Rattle.vala_compile.specs.Carried.{Program}
 use Rattle.vala_compile.specs.Emission.{call_line, tail, c_text}
 use Rattle.vg_base.proofs.SpellingLemmas.{spelled_texts}
-use Rattle.vala_compile.proofs.Reading.{Denoted}
+use Rattle.vala_compile.proofs.Denoted.{Denoted}
 
 -- what stands behind the calls
 tail_reads : Lexes tail closing

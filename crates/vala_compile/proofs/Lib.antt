@@ -1,5 +1,12 @@
-pub mod Reading
+pub mod Quoting
+pub mod Programs
+pub mod Walking
+pub mod Files
+pub mod Once
+pub mod Determined
+pub mod Denoted
 pub mod Emitting
 pub mod Simulation
 pub mod Theorem
+pub mod Held
 pub mod Counts

@@ -7,7 +7,7 @@ use Rattle.vg_base.specs.Machine.{Answers}
 use Rattle.vg_base.specs.World.{World, Mates}
 use Rattle.vg_base.specs.Headline.{Headline}
 use Rattle.c_reader.specs.CMeaning.{CState, c_opening, c_meaning, body, CRun}
-use Rattle.vala_compile.specs.Program.{Program}
+use Rattle.vala_compile.specs.Carried.{Program}
 use Rattle.vala_compile.specs.VMeaning.{VState, Statement, Leave, v_opening, v_meaning, v_live, VRun}
 use Rattle.vg_base.proofs.HeadlineLaws.{answers_headline}
 

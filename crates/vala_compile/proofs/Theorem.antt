@@ -1,37 +1,50 @@
--- What is compiled is compiled right.
-use Rattle.std.proofs.Common.{◌≡◌, ℕ, Bool, List, [], ◌∷◌, Option, Some, None, subst, sym, ◌∙◌, ap}
-use Rattle.std.specs.Prelude.{MatchOption}
+-- What is compiled is compiled right, and what is refused breaks a rule.
+use Rattle.std.proofs.Common.{◌≡◌, ℕ, Bool, List, [], ◌∷◌, Result, Ok, Err, sym, ap, subst, ◌∙◌}
 use Rattle.std.specs.declared.vec.Vec.{Vec}
 use Rattle.std.specs.declared.alloc.Global.{Global}
+use Rattle.vg_base.specs.declared.event.Fault.{Fault}
+use Rattle.vg_base.specs.declared.event.Fault.TheVariants as answer
+use Rattle.static_rules.specs.declared.rules.Refusal.{Refusal}
+use Rattle.vala_lexer.specs.Tokens.{Lexeme}
 use Rattle.c_reader.specs.Dialect.{CReads}
-use Rattle.vala_compile.specs.declared.refusal.Refusal.{Refusal}
-use Rattle.vala_compile.specs.Program.{Program, Reads, Breaks, none, outside, left_out}
+use Rattle.vala_compile.specs.Carried.{Program, IsProgram}
+use Rattle.vala_compile.specs.Program.{AreRead, Refuses, Joined, Reads, Breaks, none, refused, outside, left_out}
+use Rattle.vala_compile.specs.Steps.{outcome, Told}
 use Rattle.vala_compile.specs.Emission.{c_text}
 use Rattle.vala_compile.specs.Correct.{IsCompiled}
-use Rattle.vala_compile.proofs.Reading.{program_denoted}
+use Rattle.vala_compile.proofs.Denoted.{program_denoted}
+use Rattle.vala_compile.proofs.Programs.{program_outcome, leaves_outcome}
+use Rattle.vala_compile.proofs.Files.{joined_some}
 use Rattle.vala_compile.proofs.Emitting.{c_text_reads}
 use Rattle.vala_compile.proofs.Simulation.{headline}
 
+-- what the tokens of all files are said to be, where one says it of each list that they may be
+abbrev Answered : List (List ℕ) → Result (Vec (List ℕ) Global) (Fault Refusal) → Type 0
+Answered files result = (ts : List Lexeme) → Joined 0 files ts → Told (outcome ts) result
+
 -- the text of the program that the files are
-is_compiled : (files : List (List ℕ)) (strict : Bool) (p : Program) (c : List ℕ) → Reads files p → c ≡ c_text p → IsCompiled files strict c
-is_compiled files strict p c r e =
+pub compiled : (files : List (List ℕ)) (strict : Bool) (program : Vec (List ℕ) Global) (p : Program) (c : List ℕ) → AreRead files → Answered files (Ok program) → p ≡ program.items → c ≡ c_text p
+    → IsCompiled files strict c
+compiled files strict program p c read told same e =
+    let joined = joined_some 0 files read.0 in
+    let is_program : IsProgram joined.0 p = program_outcome joined.0 p (told joined.0 joined.1 ∙ ap (λ (p : Program). Ok p) (sym same)) in
+    let reads : Reads files p = record { read = read; tokens = joined.0; joined = joined.1; is_program = is_program } in
     record {
-      accepted = none p r;
+      accepted = none p reads;
       program = p;
-      is_program = r;
+      is_program = reads;
       unit = p;
-      is_unit = subst (λ b. CReads b p) (sym e) (c_text_reads p (program_denoted files p r));
+      is_unit = subst (λ b. CReads b p) (sym e) (c_text_reads p (program_denoted joined.0 p is_program));
       same = λ w _. headline p w;
     }
 
--- the same of what the code holds in its hands
-pub compiled : (files : List (List ℕ)) (strict : Bool) (found : Option (Vec (List ℕ) Global)) (program : Vec (List ℕ) Global) (p : Program) (c : List ℕ) → found ≡ Some program → MatchOption found ((p : Program) → Reads files p → ⊥) (λ p. Reads files p.items) → p ≡ program.items → c ≡ c_text p → IsCompiled files strict c
-compiled files strict None program p c is h same e = cc
-compiled files strict (Some found) program p c is h same e =
-    let here : found ≡ program = cc in
-    is_compiled files strict found.items c h (e ∙ ap c_text (same ∙ ap (λ v. v.items) (sym here)))
+-- files whose tokens are no program
+pub left : (files : List (List ℕ)) (strict : Bool) (r : Refusal) → AreRead files → Answered files (Err (answer.Refused r)) → (rest : List Refusal) × Breaks files strict (r ∷ rest)
+left files strict r read told =
+    let joined = joined_some 0 files read.0 in
+    let found = told joined.0 joined.1 in
+    let breaks : Breaks files strict (left_out found.0 ∷ []) = outside joined.0 found.0 read joined.1 (leaves_outcome joined.0 found.0 found.1) in
+    ([], subst (λ (r : Refusal). Breaks files strict (r ∷ [])) (sym found.2) breaks)
 
--- files in which no program was found
-pub refused : (files : List (List ℕ)) (strict : Bool) (found : Option (Vec (List ℕ) Global)) → found ≡ None → MatchOption found ((p : Program) → Reads files p → ⊥) (λ p. Reads files p.items) → (rest : List Refusal) × Breaks files strict (left_out ∷ rest)
-refused files strict None is h = ([], outside h)
-refused files strict (Some found) is h = cc
+pub broken : (files : List (List ℕ)) (strict : Bool) (r : Refusal) → Refuses files r → (rest : List Refusal) × Breaks files strict (r ∷ rest)
+broken files strict r h = ([], refused r h)

@@ -6,9 +6,10 @@ use Rattle.vg_base.specs.World.{World, IsWorld}
 use Rattle.vg_base.specs.Headline.{Headline}
 use Rattle.c_reader.specs.Dialect.{Texts, CReads}
 use Rattle.c_reader.specs.CMeaning.{CRun}
-use Rattle.vala_compile.specs.Program.{Program, Reads, Breaks}
+use Rattle.static_rules.specs.declared.rules.Refusal.{Refusal}
+use Rattle.vala_compile.specs.Carried.{Program}
+use Rattle.vala_compile.specs.Program.{AreRead, Refuses, Reads, Breaks}
 use Rattle.vala_compile.specs.VMeaning.{VRun}
-use Rattle.vala_compile.specs.declared.refusal.Refusal.{Refusal}
 use Rattle.vala_compile.specs.declared.compiler.Emitted.{Emitted}
 
 -- The files break no rule and are a program; the bytes `c` are a unit of C; and in every world the run of that unit is the run of
@@ -20,6 +21,12 @@ pub record IsCompiled (files : List (List ℕ)) (strict : Bool) (c : List ℕ) :
   pub unit : Texts
   pub is_unit : CReads c unit
   pub same : (w : World) → IsWorld w → Headline (VRun program w) (CRun unit w)
+
+-- what `check` answers: no rule of phase 1 is broken, or the first that is
+abbrev pub Checks : List (List ℕ) → Bool → Result (Unit {0}) (Fault Refusal) → Type 0
+Checks files strict (Ok u) = AreRead files
+Checks files strict (Err (Refused r)) = Refuses files r
+Checks files strict (Err Memory) = Unit {0}
 
 -- what `compile` answers: a program's C, or the first rule that the files break; want of memory is tied to no cause
 abbrev pub Compiles : List (List ℕ) → Bool → Result Emitted (Fault Refusal) → Type 0

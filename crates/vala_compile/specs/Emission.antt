@@ -2,7 +2,7 @@
 use Rattle.std.specs.Prelude.{ℕ, List, ◌++◌, codes}
 use Rattle.std.specs.List.{flat_map}
 use Rattle.vg_base.specs.Small.{spelling}
-use Rattle.vala_compile.specs.Program.{Program}
+use Rattle.vala_compile.specs.Carried.{Program}
 
 -- what stands in front of the calls
 abbrev pub head : List ℕ

@@ -1,5 +1,7 @@
+pub mod Carried
 pub mod Program
+pub mod Quoted
+pub mod Steps
 pub mod VMeaning
-pub mod Rules
 pub mod Emission
 pub mod Correct

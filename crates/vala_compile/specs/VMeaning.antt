@@ -8,7 +8,7 @@ use Rattle.vg_base.specs.declared.event.VEnd.{VEnd}
 use Rattle.vg_base.specs.declared.event.VEnd.TheVariants.{Ended}
 use Rattle.vg_base.specs.World.{World}
 use Rattle.vg_base.specs.Headline.{Said, Happens, Meaning, Observed, observed}
-use Rattle.vala_compile.specs.Program.{Program}
+use Rattle.vala_compile.specs.Carried.{Program}
 
 -- What a program works with: the bytes of a text literal, which nobody owns, or a thing, by its serial.
 pub data Value : Type 0 where

@@ -1,8 +1,9 @@
 // The laws on the definitions. The bodies do nothing: the clauses are theorems.
 
 ghost use Rattle.std.specs.Prelude.{◌≡◌, ℕ, Bool, List, ◌∷◌};
-ghost use Rattle.vala_compile.specs.declared.refusal.Refusal.{Refusal};
-ghost use Rattle.vala_compile.specs.Program.{Program, Reads, Breaks};
+ghost use Rattle.static_rules.specs.declared.rules.Refusal.{Refusal};
+ghost use Rattle.vala_compile.specs.Carried.{Program};
+ghost use Rattle.vala_compile.specs.Program.{Reads, Breaks};
 ghost use Rattle.vala_compile.specs.Correct.{IsCompiled};
 
 /// Files are at most one program.

@@ -1,12 +1,17 @@
 // Compiles Vala to C, and holds what a Vala program means.
 #![tactic(auto)]
 
+mod checker;
 mod compiler;
 mod emit;
 mod laws;
+mod quoted;
 mod read;
-mod refusal;
+mod reader;
+mod role;
+#[cfg(test)]
+mod tests;
 
+pub use checker::check;
 pub use compiler::{Emitted, compile};
 pub use laws::{breaks_are_determined, one_program};
-pub use refusal::{Refusal, Rule, rule_name, rule_text};

@@ -1,41 +1,39 @@
-// Reads the files as a program.
+// Reads all files as a program.
 
-ghost use Rattle.std.specs.Prelude.{map, MatchOption, IfOk};
-ghost use Rattle.vala_compile.specs.Program.{Program, Reads};
+ghost use Rattle.std.specs.Prelude.{List, map};
+ghost use Rattle.vala_lexer.specs.Tokens.{Lexeme};
+ghost use Rattle.vala_compile.specs.Program.{AreRead, Joined};
+ghost use Rattle.vala_compile.specs.Steps.{Told, at_end, outcome, seen};
 
+use crate::reader::{Expected, Reader, left_out};
+use static_rules::Refusal;
 use std::alloc::Global;
-use vg_base::{Bytes, Memory, Piece, texts_between, tokens};
+use vg_base::{Bytes, Fault, Span};
 
-// The most bytes that a file may have.
-const MOST_BYTES: usize = 1_048_576;
+// The first byte of the first file.
+const START: Span = Span {
+    file: 0,
+    start: 0,
+    end: 0,
+};
 
-// `void main () {`
-const OPENING: [Piece; 5] = [
-    Piece::Word("void"),
-    Piece::Word("main"),
-    Piece::Sign(b'('),
-    Piece::Sign(b')'),
-    Piece::Sign(b'{'),
-];
-
-// `}`
-const CLOSING: [Piece; 1] = [Piece::Sign(b'}')];
-
-/// The program that the files are, if they are one.
-pub fn read(alloc: Global, files: &[Vec<u8>]) -> Result<Option<Vec<Bytes>>, Memory>
-    ensures { IfOk result (λ found. MatchOption found
-        ((program : Program) → Reads (map (λ f. f.items) files.now) program → ⊥)
-        (λ program. Reads (map (λ f. f.items) files.now) program.items)) }
+fn texts_of(reader: Reader) -> Result<Vec<Bytes>, Fault<Refusal>>
+    ensures { Told (at_end (seen reader)) result }
 {
-    if files.len() != 1 {
-        return Ok(None);
+    match reader.next {
+        Expected::Nothing => Ok(reader.texts),
+        _ => Err(Fault::Refused(left_out(START))),
     }
-    let bytes = &files[0];
-    if bytes.len() > MOST_BYTES {
-        return Ok(None);
+}
+
+/// The program that the files are, by the texts that it prints, where each is a file of the grammar.
+pub fn read(alloc: Global, files: &[Vec<u8>]) -> Result<Vec<Bytes>, Fault<Refusal>>
+    requires { AreRead (map (λ f. f.items) files.now) }
+    ensures { (ts : List Lexeme) → Joined 0 (map (λ f. f.items) files.now) ts → Told (outcome ts) result }
+{
+    let mut reader = Reader::new(alloc);
+    for (number, bytes) in files.iter().enumerate() {
+        reader.take_file(alloc, bytes, number as u32)?;
     }
-    match tokens(alloc, bytes)? {
-        None => Ok(None),
-        Some(found) => texts_between(alloc, &found, &OPENING, "print", &CLOSING),
-    }
+    texts_of(reader)
 }

@@ -28,14 +28,14 @@ use Rattle.vala_grammar.specs.Trees as tree
 use Rattle.vala_grammar.specs.Tests.{is, is_assignment, is_type_sign, begins_prefix, opens_choice}
 use Rattle.vala_grammar.specs.Read.{vala_reader}
 use Rattle.vala_cursor.specs.Ahead.{reads}
-use Rattle.vala_expressions.specs.Brackets.{bracket_ended, cast_ended, cast_to, choice_of_names, choice_start, array_lead, lambda_behind, lead_ended, marked_array, names_ended, names_closed, names_further, names_lead, names_then, one_more_parameter, owned_behind, parameters_then}
+use Rattle.vala_expressions.specs.Brackets.{bracket_ended, cast_ended, cast_to, choice_of_names, choice_start, array_lead, lambda_behind, lead_ended, lead_indexed, lead_called, lead_at, marked_array, names_ended, names_closed, names_further, names_lead, names_then, one_more_parameter, owned_behind, parameters_then}
 use Rattle.vala_cursor.specs.Gets.{got, one, way, leave, next}
 use Rattle.vala_grammar.proofs.Finite.{finite}
 use Rattle.predictive_grammar.proofs.Sets.{by_list, apart}
 use Rattle.vala_expressions.specs.Chains.{choice_ended}
 use Rattle.vala_expressions.proofs.ChainLaws.{by_if}
 use Rattle.vala_grammar.proofs.Readers.{reader_unfolds}
-use Rattle.vala_cursor.proofs.Steps.{after_one, after_two, bind}
+use Rattle.vala_cursor.proofs.Steps.{after_one, after_two, bind, first_way, just}
 use Rattle.vala_grammar.specs.Label.{Label}
 
 pub bracket_law : (top : Bool) (o : Lexeme) (l : ℕ) (i : List Lexeme) → vala_reader (p.Bracket top o) l i
@@ -130,8 +130,20 @@ pub ruleset leads_laws = (opening_name_law, leads_array, leads_value, leads_name
 
 pub lead_more_law : (n : NameTree) (l : ℕ) (i : List Lexeme) → vala_reader (p.LeadMore n) l i
     ≡ way (is s.Dot) (one s.Dot l >>= λ d. one s.Identifier l >>= λ t. vala_reader (p.LeadMore (tree.one_more_word n t)) (suc l) >>= pure) (lead_ended n l) i
-unfolding walk forms got
+unfolding walk forms got lead_ended lead_indexed lead_called lead_at
 lead_more_law n l i = reader_unfolds (p.LeadMore n) l i
+
+-- a dot and a word are taken
+pub lead_goes_on : (n m : NameTree) (l above : ℕ) (i j k : List Lexeme) (d t : Lexeme) → next (is s.Dot) i ≡ true → one s.Dot l i ≡ Ok (d, j) → one s.Identifier l j ≡ Ok (t, k) → m ≡ tree.one_more_word n t → above ≡ suc l
+    → vala_reader (p.LeadMore n) l i ≡ vala_reader (p.LeadMore m) above k
+lead_goes_on n m l above i j k d t here dot word same up =
+    lead_more_law n l i
+    ∙ first_way (next (is s.Dot) i) ((one s.Dot l >>= λ d. one s.Identifier l >>= λ t. vala_reader (p.LeadMore (tree.one_more_word n t)) (suc l) >>= pure) i) (lead_ended n l i) here
+    ∙ ap (λ (o : Outcome Label Lexeme Lexeme). and_then o (λ d. one s.Identifier l >>= λ t. vala_reader (p.LeadMore (tree.one_more_word n t)) (suc l) >>= pure)) dot
+    ∙ ap (λ (o : Outcome Label Lexeme Lexeme). and_then o (λ t. vala_reader (p.LeadMore (tree.one_more_word n t)) (suc l) >>= pure)) word
+    ∙ just (vala_reader (p.LeadMore (tree.one_more_word n t)) (suc l) k)
+    ∙ ap (λ (x : NameTree). vala_reader (p.LeadMore x) (suc l) k) (sym same)
+    ∙ ap (λ (x : ℕ). vala_reader (p.LeadMore m) x k) (sym up)
 
 pub marked_law : (x : Context) (n : NameTree) (q : Span) (l : ℕ) (i : List Lexeme) → vala_reader (p.Marked x n q) l i
     ≡ way (is s.Slash) leave (way (is s.OpenBracket) (marked_array n q l)

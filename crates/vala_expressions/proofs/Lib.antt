@@ -4,3 +4,4 @@ pub mod NameLaws
 pub mod OperandLaws
 pub mod Progress
 pub mod SuffixLaws
+pub mod TierLaws

@@ -1,6 +1,6 @@
 -- Names and types by their steps.
-use Rattle.std.proofs.Common.{◌≡◌, ℕ, suc, List, Option, Some, None, refl}
-use Rattle.predictive_grammar.specs.Steps.{◌>>=◌, pure}
+use Rattle.std.proofs.Common.{◌≡◌, ℕ, suc, Bool, List, if◌then◌else◌, Option, Some, None, Ok, refl, ◌∙◌}
+use Rattle.predictive_grammar.specs.Steps.{Outcome, Parser, LeftOut, and_then, ◌>>=◌, pure, fail}
 use Rattle.predictive_grammar.specs.Reading.{walk}
 use Rattle.vg_base.specs.declared.event.Span.{Span}
 use Rattle.vala_lexer.specs.Tokens.{Lexeme}
@@ -8,7 +8,7 @@ use Rattle.vala_tree.specs.declared.names.NameTree.{NameTree}
 use Rattle.vala_grammar.specs.declared.sort.Sort.TheVariants as s
 use Rattle.vala_grammar.specs.declared.parts.TypeName.TheVariants as type_name
 use Rattle.vala_grammar.specs.Parts as p
-use Rattle.vala_grammar.specs.Grammar.{forms, type_behind}
+use Rattle.vala_grammar.specs.Grammar.{G, forms, type_behind}
 use Rattle.vala_grammar.specs.Trees as tree
 use Rattle.vala_grammar.specs.Tests.{is, is_ownership}
 use Rattle.vala_cursor.specs.Ahead.{reads}

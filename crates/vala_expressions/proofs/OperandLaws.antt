@@ -16,6 +16,7 @@ use Rattle.vala_grammar.specs.Tests.{is, among, is_literal, is_type_sign, is_pla
 use Rattle.vala_grammar.specs.Read.{vala_reader}
 use Rattle.vala_cursor.specs.Ahead.{reads}
 use Rattle.vala_cursor.specs.Gets.{got, one, way, leave}
+use Rattle.vala_expressions.specs.Chains.{object_ended}
 use Rattle.vala_grammar.proofs.Readers.{reader_unfolds}
 
 pub primary_law : (l : ℕ) (i : List Lexeme) → vala_reader p.Primary l i
@@ -46,9 +47,9 @@ unfolding walk forms got
 call_more_law a l i = reader_unfolds (p.CallMore a) l i
 
 pub new_more_law : (t : Lexeme) (n : NameTree) (l : ℕ) (i : List Lexeme) → vala_reader (p.NewMore t n) l i
-    ≡ way (is s.OpenParen) (one s.OpenParen l >>= λ o. vala_reader p.Args (suc l) >>= λ xs. way (is s.OpenBrace) leave (pure (tree.new_object t n xs)))
+    ≡ way (is s.OpenParen) (one s.OpenParen l >>= λ o. vala_reader p.Args (suc l) >>= λ xs. object_ended t n xs)
     (way (is s.Question) (one s.Question l >>= λ q. vala_reader (p.NewArray t n (Some q.span)) l >>= pure) (vala_reader (p.NewArray t n None) l >>= pure)) i
-unfolding walk forms got
+unfolding walk forms got object_ended
 new_more_law t n l i = reader_unfolds (p.NewMore t n) l i
 
 pub new_array_law : (t : Lexeme) (n : NameTree) (q : Option Span) (l : ℕ) (i : List Lexeme) → vala_reader (p.NewArray t n q) l i

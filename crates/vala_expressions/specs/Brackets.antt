@@ -96,21 +96,21 @@ array_lead n c l =
     way (is s.Question) (one s.Question l >>= λ q. pure (opening.Type (tree.array_type None n None c (Some q.span)))) (pure (opening.Type (tree.array_type None n None c None)))
 
 -- behind `[` and an index
-abbrev pub lead_at : NameTree → Expr → ℕ → Parser Label Lexeme Lead
+unfoldable pub lead_at : NameTree → Expr → ℕ → Parser Label Lexeme Lead
 lead_at n i l =
     way (is s.Colon) leave (one s.CloseBracket (suc l) >>= λ c. vala_reader (p.Suffix (tree.plain (tree.index (tree.names n) i c))) (suc l) >>= λ e. pure (lead.Value e))
 
-abbrev pub lead_indexed : NameTree → ℕ → Parser Label Lexeme Lead
+unfoldable pub lead_indexed : NameTree → ℕ → Parser Label Lexeme Lead
 lead_indexed n l =
     one s.OpenBracket l >>= λ b. way (is s.Comma) leave
     (way (is s.CloseBracket) (one s.CloseBracket (suc l) >>= λ c. pure (lead.Array n c.span)) (vala_reader p.Whole (suc l) >>= λ i. lead_at n i l))
 
-abbrev pub lead_called : NameTree → ℕ → Parser Label Lexeme Lead
+unfoldable pub lead_called : NameTree → ℕ → Parser Label Lexeme Lead
 lead_called n l =
     one s.OpenParen l >>= λ o. vala_reader p.Args (suc l) >>= λ xs. vala_reader (p.Suffix (tree.plain (tree.call (tree.names n) xs))) (suc l) >>= λ c. pure (lead.Value c)
 
 -- behind the last word
-abbrev pub lead_ended : NameTree → ℕ → Parser Label Lexeme Lead
+unfoldable pub lead_ended : NameTree → ℕ → Parser Label Lexeme Lead
 lead_ended n l =
     way (is s.OpenBracket) (lead_indexed n l)
     (way (is s.Step) (one s.Step l >>= λ t. vala_reader (p.Suffix (tree.plain (tree.step (tree.names n) t))) (suc l) >>= λ c. pure (lead.Value c))

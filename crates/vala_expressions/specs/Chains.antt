@@ -6,11 +6,13 @@ use Rattle.vala_tree.specs.declared.code.Argument.{Argument}
 use Rattle.vala_tree.specs.declared.code.Expr.{Expr}
 use Rattle.vala_grammar.specs.declared.sort.Sort.{Sort}
 use Rattle.vala_grammar.specs.declared.sort.Sort.TheVariants as s
+use Rattle.vala_grammar.specs.declared.parts.Arguments.{Arguments}
 use Rattle.vala_grammar.specs.declared.parts.Bracketed.{Bracketed}
 use Rattle.vala_grammar.specs.declared.parts.Chain.{Chain}
 use Rattle.vala_grammar.specs.declared.parts.Last.{Last}
 use Rattle.vala_grammar.specs.declared.parts.Last.TheVariants as last
 use Rattle.vala_grammar.specs.declared.parts.Tested.{Tested}
+use Rattle.vala_tree.specs.declared.names.NameTree.{NameTree}
 use Rattle.vala_tree.specs.declared.names.TypeTree.{TypeTree}
 use Rattle.vala_grammar.specs.declared.parts.Tier.{Tier}
 use Rattle.vala_grammar.specs.declared.parts.Tier.TheVariants as tier
@@ -113,3 +115,7 @@ one_link a l = way (is s.Dot) (member_link a l) (way (is s.OpenBracket) (index_l
 -- the rest of an argument that begins with a word
 abbrev pub argument_behind : Lexeme → ℕ → Parser Label Lexeme Argument
 argument_behind t l = way (is s.Colon) (one s.Colon l >>= λ c. vala_reader Whole l >>= λ e. pure (tree.named_argument t e)) (vala_reader (AfterWord t) l >>= λ e. pure (tree.argument e))
+
+-- behind the arguments of a new object: braces there are left out
+unfoldable pub object_ended : Lexeme → NameTree → Arguments → Parser Label Lexeme Expr
+object_ended t n xs = way (is s.OpenBrace) leave (pure (tree.new_object t n xs))

@@ -1,2 +1,3 @@
+pub mod Asks
 pub mod Brackets
 pub mod Chains

@@ -143,8 +143,9 @@ pub fn name_in_type(alloc: Global, cursor: &mut Cursor<'_>, level: u32) -> Resul
     name_in_type_more(alloc, cursor, level, first)
 }
 
+/// What follows the first word of a name in a type.
 #[tactic(auto, using(crate::proofs::NameLaws::name_in_type_more_law, vala_cursor::proofs::Steps::just))]
-fn name_in_type_more(
+pub fn name_in_type_more(
     alloc: Global,
     cursor: &mut Cursor<'_>,
     level: u32,

@@ -1,11 +1,21 @@
-use Rattle.std.proofs.Common.{map}
-use Rattle.vala_compile.proofs.Theorem.{compiled, refused}
+use Rattle.std.proofs.Common.{◌≡◌, Err, rules, sym, subst}
+use Rattle.vala_compile.specs.Correct.{Compiles}
+use Rattle.vala_compile.proofs.Theorem.{compiled}
+use Rattle.vala_compile.proofs.Held.{bytes_of, refused_first, refused_last}
 use Rattle.vala_compile.proofs.compiler.compile.Goals as goal
 
-pub returns-in_default-found : goal.returns-in_default-found
-returns-in_default-found c =
-    refused (map (λ f. f.items) c.args.files.now) c.args.strict_null c.in-Ok.found c.in_default-found.is c.in-Ok.ensures
+pub returns-in_err-check : goal.returns-in_err-check
+returns-in_err-check c =
+    let fault = c.in_err-check.field-0.0 in
+    let passed : c.from_residual.result ≡ Err fault = search rules in
+    subst (λ r. Compiles (bytes_of c.args.files.now) c.args.strict_null r) (sym passed) (refused_first (bytes_of c.args.files.now) c.args.strict_null fault c.in_err-check.ensures)
 
-pub returns-in-Ok-emit : goal.returns-in-Ok-emit
-returns-in-Ok-emit c =
-    compiled (map (λ f. f.items) c.args.files.now) c.args.strict_null c.in-Ok.found c.in-Some.program c.deref.result.now c.in-Ok-emit.c.items c.in-Some.is c.in-Ok.ensures c.deref.ensures.value c.in-Ok-emit.ensures
+pub returns-in_err-program : goal.returns-in_err-program
+returns-in_err-program c =
+    let fault = c.in_err-program.field-0.0 in
+    let passed : c.from_residual-in_err-program.result ≡ Err fault = search rules in
+    subst (λ r. Compiles (bytes_of c.args.files.now) c.args.strict_null r) (sym passed) (refused_last (bytes_of c.args.files.now) c.args.strict_null fault c.in_ok-check.ensures c.in_err-program.ensures)
+
+pub returns-in-Ok : goal.returns-in-Ok
+returns-in-Ok c =
+    compiled (bytes_of c.args.files.now) c.args.strict_null c.in_ok-program.program c.deref.result.now c.in-Ok.c.items c.in_ok-check.ensures c.in_ok-program.ensures c.deref.ensures.value c.in-Ok.ensures

@@ -1,5 +1,5 @@
-use Rattle.vala_compile.proofs.Reading.{one_program}
+use Rattle.vala_compile.proofs.Once as once
 use Rattle.vala_compile.proofs.laws.one_program.Goals as goal
 
 pub returns : goal.returns
-returns c = one_program
+returns c = once.one_program

@@ -1,0 +1,10 @@
+pub mod CatchLaws
+pub mod IfLaws
+pub mod Levels
+pub mod Limited
+pub mod LocalLaws
+pub mod LoopLaws
+pub mod MoreLocals
+pub mod Progress
+pub mod StatementLaws
+pub mod Unboxed

@@ -1,0 +1,15 @@
+use Rattle.std.proofs.Common.{◌≡◌, ◌-◌, List, [], ◌∷◌, length}
+use Rattle.vala_grammar.specs.Parts.{ForExprs}
+use Rattle.vala_grammar.specs.Read.{vala_reader}
+use Rattle.vala_cursor.specs.Ahead.{rest, stop}
+use Rattle.vala_cursor.specs.Gets.{seen}
+use Rattle.vala_parse_expr.proofs.statements.Statements.for_exprs.Given as goal
+
+abbrev pub invariant-items : goal.invariant-items
+invariant-items g l = record {
+  same : vala_reader (ForExprs (l.fn.first ∷ [])) l.level (rest l.fn.cursor) ≡ vala_reader (ForExprs l.list) l.level (rest l.cursor);
+  kept : stop l.cursor ≡ stop l.fn.cursor;
+}
+
+abbrev pub decreases-items : goal.decreases-items
+decreases-items g l = length (rest l.cursor)
