@@ -12,9 +12,14 @@ mod Moving
 mod MovingStatements
 mod Twice
 mod ItemReading
+mod Inner
 mod WordLemmas
 mod CleanValues
 mod CleanReading
 mod CleanStatements
 mod CleanUnits
+mod WordKinds
+mod TokensOfBytes
+mod GivenValues
+mod GivenItems
 mod UnitReading

@@ -101,7 +101,7 @@ call_read {ns} {c} (call_type_row {n} s {c = d} {xs} i h j t o r m) = subst (λ 
 abbrev pub bare_of_stmt : Stmt → Stmt
 bare_of_stmt = fold-Stmt Stmt Block bare_stmt (λ b. block (map bare_local b.locals) b.body nowhere)
 
-abbrev stmt_layer : Stmt-F Stmt Block → Stmt-F Indented Indented
+abbrev pub stmt_layer : Stmt-F Stmt Block → Stmt-F Indented Indented
 stmt_layer = map-Stmt Stmt Block Indented Indented stmt_marks block_marks
 
 abbrev pub stmt_bare_layer : Stmt-F Stmt Block → Stmt-F Stmt Block
@@ -131,13 +131,13 @@ stmt_rolls_at (Stmt-F.Switch a cs x) = stmt.rolls-Switch a cs x
 stmt_rolls_at (Stmt-F.Return o e) = stmt.rolls-Return o e
 stmt_rolls_at (Stmt-F.Block b) = stmt.rolls-Block b
 
-stmt_written : (l : Stmt-F Stmt Block) → stmt_marks (stmt_at l) ≡ print_stmt (stmt_layer l)
+pub stmt_written : (l : Stmt-F Stmt Block) → stmt_marks (stmt_at l) ≡ print_stmt (stmt_layer l)
 stmt_written l = ap stmt_marks (sym (stmt_rolls_at l)) ∙ fold-roll-Stmt Indented Indented print_stmt print_block l
 
 pub stmt_bare : (l : Stmt-F Stmt Block) → bare_of_stmt (stmt_at l) ≡ bare_stmt (stmt_bare_layer l)
 stmt_bare l = ap bare_of_stmt (sym (stmt_rolls_at l)) ∙ fold-roll-Stmt Stmt Block bare_stmt (λ b. block (map bare_local b.locals) b.body nowhere) l
 
-block_written : (ls : List Local) (ss : List Stmt) (o : Span) → block_marks (block ls ss o) ≡ print_block (record { locals = ls; body = map stmt_marks ss; span = o })
+pub block_written : (ls : List Local) (ss : List Stmt) (o : Span) → block_marks (block ls ss o) ≡ print_block (record { locals = ls; body = map stmt_marks ss; span = o })
 block_written ls ss o = fold_out-Block Indented Indented print_stmt print_block (block ls ss o)
 
 -- a statement and a block as their code sees them

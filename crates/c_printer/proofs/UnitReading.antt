@@ -1,5 +1,5 @@
 -- Units that are written are read.
-use Rattle.std.proofs.Common.{◌≡◌, ◌∙◌, refl, sym, ap, ap₂, subst, ℕ, zero, suc, Bool, true, false, cond, not, ◌&&◌, ◌||◌, nat_le, List, [], ◌∷◌, ◌++◌, map, length, codes, append_assoc, Option, Some, None, arith}
+use Rattle.std.proofs.Common.{◌≡◌, ◌∙◌, refl, sym, ap, ap₂, subst, ℕ, zero, suc, Bool, true, false, cond, not, ◌&&◌, ◌||◌, nat_le, List, [], ◌∷◌, ◌++◌, map, length, drop, ◌≤◌, codes, append_assoc, Option, Some, None, arith}
 use Rattle.std.proofs.lemmas.Bool.{and_parts}
 use Rattle.c_lexer.specs.declared.token.TokenKind.TheVariants as k
 use Rattle.c_lexer.specs.Written.{IsWord}
@@ -14,17 +14,22 @@ use Rattle.c_tree.specs.Items as it
 use Rattle.c_tree.specs.Items.{ReadsItem, ReadsItems, no_item, more_items, is_include, ends_line}
 use Rattle.c_tree.specs.Bare.{bare_item, bare}
 use Rattle.c_tree.specs.declared.unit.Unit.{Unit as CUnit}
-use Rattle.c_lexer.specs.Tokens.{Tokens, all_of}
+use Rattle.c_lexer.specs.declared.token.BadToken.{BadToken}
+use Rattle.c_lexer.specs.Laws.{Covers}
+use Rattle.c_lexer.specs.Tokens.{Left, Lexeme, Tokens, all_of}
 use Rattle.c_printer.specs.declared.group.Group.{Group}
 use Rattle.c_printer.specs.Alike.{Alike, none, one}
 use Rattle.c_printer.specs.Marks.{Mark, Marks, Name, AKeyword, AConstant, Number, Chars, Character, ASign, Space, Line, word, put_marks}
-use Rattle.c_printer.specs.Printed.{IsInner, AreInner, IsFile, IsWritableItem, AreWritableItems, CanBePrinted, IsTextOf}
+use Rattle.c_printer.specs.Printed.{CanBePrinted, IsTextOf}
+use Rattle.c_printer.proofs.Inner.{IsInner, AreInner, IsFile, IsWritableItem, AreWritableItems}
 use Rattle.c_printer.specs.Laws.{TokensAreRead}
 use Rattle.c_printer.specs.Put.{AreBytes}
 use Rattle.c_printer.specs.PutItems.{include_marks, item_marks, group_of, is_close, between_items, items_marks, unit_marks}
 use Rattle.c_printer.specs.Text.{Text, empty}
 use Rattle.c_printer.specs.Writable.{IsWritable, AreWritable, lexemes}
 use Rattle.c_printer.proofs.CleanUnits.{sound_alike}
+use Rattle.c_printer.proofs.GivenItems.{items_inner}
+use Rattle.c_printer.proofs.TokensOfBytes.{bytes_given}
 use Rattle.c_printer.proofs.TypeReading.{word_append}
 use Rattle.c_printer.proofs.ItemReading.{is_code, item_here, item_scope_bare, include_bare}
 use Rattle.c_printer.proofs.WordLemmas.{flag, inner_words, inner_alike, begins, include_words, AllFileBytes, file_bytes, byte_small}
@@ -260,18 +265,24 @@ unit_writable is h = writable_append (items_marks None is) (Line 0 ∷ []) (item
 
 -- 5. Whole texts
 
-pub text_read : TokensAreRead → (u : CUnit) (bytes : List ℕ) → bytes ≡ (put_marks empty (unit_marks u)).bytes → CanBePrinted u → IsTextOf u bytes
-text_read lexed u bytes e h =
-    let m = all_items_read u.items library_names h.reads h.writable in
+-- tokens of bytes cover them
+abbrev pub TokensCover : Type 0
+TokensCover = (l : Left) (ts : List Lexeme) (o : Option BadToken) → l.at ≤ length l.bytes → Tokens l ts o → Covers l.at (drop l.at l.bytes) ts o
+
+pub text_read : TokensAreRead → TokensCover → (u : CUnit) (bytes : List ℕ) → bytes ≡ (put_marks empty (unit_marks u)).bytes → CanBePrinted u → IsTextOf u bytes
+text_read lexed covers u bytes e h =
+    let was = h.reads.reads.items in
+    let inner = items_inner was (bytes_given h.bytes h.reads.tokens None (covers (all_of h.bytes) h.reads.tokens None (omega arith) h.reads.lexed) h.are_bytes) in
+    let m = all_items_read u.items library_names was inner in
     let read : CUnit = record { items = m.tree } in
     let same : bare read ≡ bare u = λ i. record { items = m.same i } in
     record {
       read = read;
       reads = record {
         tokens = lexemes empty true (unit_marks u);
-        lexed = subst (λ z. Tokens (all_of z) (lexemes empty true (unit_marks u)) None) (sym e) (lexed (unit_marks u) (unit_writable u.items h.writable));
-        reads = record { items = m.reads; shallow = all_items_nest u.items h.writable [] h.nests };
-        sound = sound_alike u read h.reads m.reads same h.sound;
+        lexed = subst (λ z. Tokens (all_of z) (lexemes empty true (unit_marks u)) None) (sym e) (lexed (unit_marks u) (unit_writable u.items inner));
+        reads = record { items = m.reads; shallow = all_items_nest u.items inner [] h.nests };
+        sound = sound_alike u read was m.reads same h.reads.sound;
       };
       same = same;
     }

@@ -23,7 +23,7 @@ use Rattle.c_tree.specs.declared.unit.Include.TheVariants as include
 use Rattle.c_tree.specs.Words.{Token, IsSign, IsNamed, Terminal, Of, Header, plain, words_behind, words_by, Other, Hash, IncludeWord, Inside, BeginsLine, side_by_side, Named, named, system_file, own_file, is_file_name, header}
 use Rattle.c_printer.specs.Alike.{Like, Alike, none, one}
 use Rattle.c_printer.specs.Marks.{Marks, Name, AKeyword, AConstant, Number, Chars, Character, ASign, Space, Line, word, put_mark, put_marks}
-use Rattle.c_printer.specs.Printed.{is_hash, AreInner, IsFile}
+use Rattle.c_printer.proofs.Inner.{is_hash, AreInner, IsFile}
 use Rattle.c_printer.specs.Put.{spelled_number, spelled_text, spelled_character, spelled_bytes, spelled_byte}
 use Rattle.c_printer.specs.PutItems.{include_marks}
 use Rattle.c_printer.specs.Text.{Text, with_token}

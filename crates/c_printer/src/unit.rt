@@ -6,6 +6,7 @@ ghost use Rattle.c_printer.specs.Printed.{CanBePrinted, IsTextOf};
 use crate::items::put_unit;
 use crate::laws::tokens_are_read;
 use crate::output::Writer;
+use c_lexer::tokens_cover;
 use c_tree::Unit;
 use std::alloc::Global;
 use vg_base::Memory;
@@ -15,6 +16,7 @@ pub fn print(alloc: Global, unit: &Unit) -> Result<Vec<u8>, Memory>
     ensures { IfOk result (λ text. CanBePrinted unit.now → IsTextOf unit.now text.items) }
 {
     tokens_are_read();
+    tokens_cover();
     let mut out = Writer::new(alloc);
     put_unit(alloc, &mut out, unit)?;
     Ok(out.into_bytes())

@@ -6,4 +6,4 @@ use Rattle.c_printer.proofs.UnitReading.{text_read}
 use Rattle.c_printer.proofs.unit.print.Goals as goal
 
 pub returns : goal.returns
-returns c = text_read c.tokens_are_read.ensures c.args.unit.now c.into_bytes.result.items (c.into_bytes.ensures ∙ ap (λ (t : Text). t.bytes) (c.in_ok-put_unit.ensures ∙ ap (λ (t : Text). put_marks t (unit_marks c.args.unit.now)) c.new-out.ensures))
+returns c = text_read c.tokens_are_read.ensures c.tokens_cover.ensures.covers c.args.unit.now c.into_bytes.result.items (c.into_bytes.ensures ∙ ap (λ (t : Text). t.bytes) (c.in_ok-put_unit.ensures ∙ ap (λ (t : Text). put_marks t (unit_marks c.args.unit.now)) c.new-out.ensures))
