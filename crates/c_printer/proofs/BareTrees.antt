@@ -1,5 +1,5 @@
 -- Trees without places, and what is written of them, one level after another.
-use Rattle.std.proofs.Common.{◌≡◌, ◌∙◌, cond, refl, sym, ap, false, List, [], ◌∷◌, map}
+use Rattle.std.proofs.Common.{◌≡◌, ◌∙◌, cond, refl, sym, ap, true, false, List, [], ◌∷◌, map}
 use Rattle.c_tree.specs.declared.names.Span.{Span}
 use Rattle.c_tree.specs.declared.operators.BinaryOperator.{BinaryOperator}
 use Rattle.c_tree.specs.declared.operators.Prefix.{Prefix}
@@ -17,6 +17,7 @@ use Rattle.c_tree.specs.declared.code.Shape.TheFolds.{fold-roll-Shape, fold-Shap
 use Rattle.c_tree.specs.Make.{expr, span_of, shape_of, link, choice, bracketed, last_operand, suffix_span, last_suffix}
 use Rattle.c_tree.specs.Values.{is_place, is_place_layer, begins_with_deref, is_deref, is_dot_layer}
 use Rattle.c_tree.specs.Bare.{nowhere, bare_operator, bare_prefix, bare_shape, bare_suffix, bare_expr}
+use Rattle.c_printer.specs.declared.grade.Brackets.{Brackets}
 use Rattle.c_printer.specs.declared.grade.Place.{Place}
 use Rattle.c_printer.specs.Grades.{stands}
 use Rattle.c_printer.specs.Marks.{Marks}
@@ -24,11 +25,11 @@ use Rattle.c_printer.specs.PutValues.{Printed, PrintedLink, print_shape, print_s
 
 -- 1. What is written
 
-abbrev pub shape_layer : Shape-F Shape Suffix Choice Expr Link → Shape-F Printed Marks Marks Printed PrintedLink
-shape_layer = map-Shape Shape Suffix Choice Expr Link Printed Marks Marks Printed PrintedLink printed_shape suffix_marks choice_marks printed printed_link
+abbrev pub shape_layer : (style : Brackets) → Shape-F Shape Suffix Choice Expr Link → Shape-F Printed Marks Marks Printed PrintedLink
+shape_layer style = map-Shape Shape Suffix Choice Expr Link Printed Marks Marks Printed PrintedLink (printed_shape style) (suffix_marks style) (choice_marks style) (printed style) (printed_link style)
 
-pub shape_written : (s : Shape) → printed_shape s ≡ print_shape (shape_layer (out-Shape s))
-shape_written s = fold_out-Shape Printed Marks Marks Printed PrintedLink print_shape print_suffix print_choice print_expr print_link s
+pub shape_written : (style : Brackets) → (s : Shape) → printed_shape style s ≡ print_shape style (shape_layer style (out-Shape s))
+shape_written style s = fold_out-Shape Printed Marks Marks Printed PrintedLink (print_shape style) (print_suffix style) (print_choice style) print_expr (print_link style) s
 
 -- a value from one level of it
 abbrev pub shape_at : Shape-F Shape Suffix Choice Expr Link → Shape
@@ -72,24 +73,24 @@ suffix_out_at (Suffix-F.Field x) = refl
 suffix_out_at (Suffix-F.Arrow x) = refl
 suffix_out_at (Suffix-F.Index i o) = refl
 
-pub choice_written : (a b : Expr) → choice_marks (choice a b) ≡ print_choice (record { test = printed a; yes = printed b })
-choice_written a b = fold_out-Choice Printed Marks Marks Printed PrintedLink print_shape print_suffix print_choice print_expr print_link (choice a b)
+pub choice_written : (style : Brackets) → (a b : Expr) → choice_marks style (choice a b) ≡ print_choice style (record { test = printed style a; yes = printed style b })
+choice_written style a b = fold_out-Choice Printed Marks Marks Printed PrintedLink (print_shape style) (print_suffix style) (print_choice style) print_expr (print_link style) (choice a b)
 
-pub link_written : (o : BinaryOperator) (b : Expr) → printed_link (link o b) ≡ print_link (record { operator = o; operand = printed b })
-link_written o b = fold_out-Link Printed Marks Marks Printed PrintedLink print_shape print_suffix print_choice print_expr print_link (link o b)
+pub link_written : (style : Brackets) → (o : BinaryOperator) (b : Expr) → printed_link style (link o b) ≡ print_link style (record { operator = o; operand = printed style b })
+link_written style o b = fold_out-Link Printed Marks Marks Printed PrintedLink (print_shape style) (print_suffix style) (print_choice style) print_expr (print_link style) (link o b)
 
-pub suffix_written : (x : Suffix) → suffix_marks x ≡ print_suffix (map-Suffix Shape Suffix Choice Expr Link Printed Marks Marks Printed PrintedLink printed_shape suffix_marks choice_marks printed printed_link (out-Suffix x))
-suffix_written x = fold_out-Suffix Printed Marks Marks Printed PrintedLink print_shape print_suffix print_choice print_expr print_link x
+pub suffix_written : (style : Brackets) → (x : Suffix) → suffix_marks style x ≡ print_suffix style (map-Suffix Shape Suffix Choice Expr Link Printed Marks Marks Printed PrintedLink (printed_shape style) (suffix_marks style) (choice_marks style) (printed style) (printed_link style) (out-Suffix x))
+suffix_written style x = fold_out-Suffix Printed Marks Marks Printed PrintedLink (print_shape style) (print_suffix style) (print_choice style) print_expr (print_link style) x
 
-pub printed_at : (l : Shape-F Shape Suffix Choice Expr Link) (o : Span) → printed (expr (shape_at l) o) ≡ print_shape (shape_layer l)
-printed_at l o = fold_out-Expr Printed Marks Marks Printed PrintedLink print_shape print_suffix print_choice print_expr print_link (expr (shape_at l) o)
-    ∙ ap printed_shape (sym (rolls_at l)) ∙ fold-roll-Shape Printed Marks Marks Printed PrintedLink print_shape print_suffix print_choice print_expr print_link l
+pub printed_at : (style : Brackets) → (l : Shape-F Shape Suffix Choice Expr Link) (o : Span) → printed style (expr (shape_at l) o) ≡ print_shape style (shape_layer style l)
+printed_at style l o = fold_out-Expr Printed Marks Marks Printed PrintedLink (print_shape style) (print_suffix style) (print_choice style) print_expr (print_link style) (expr (shape_at l) o)
+    ∙ ap (printed_shape style) (sym (rolls_at l)) ∙ fold-roll-Shape Printed Marks Marks Printed PrintedLink (print_shape style) (print_suffix style) (print_choice style) print_expr (print_link style) l
 
-abbrev pub suffix_layer : Suffix-F Shape Suffix Choice Expr Link → Suffix-F Printed Marks Marks Printed PrintedLink
-suffix_layer = map-Suffix Shape Suffix Choice Expr Link Printed Marks Marks Printed PrintedLink printed_shape suffix_marks choice_marks printed printed_link
+abbrev pub suffix_layer : (style : Brackets) → Suffix-F Shape Suffix Choice Expr Link → Suffix-F Printed Marks Marks Printed PrintedLink
+suffix_layer style = map-Suffix Shape Suffix Choice Expr Link Printed Marks Marks Printed PrintedLink (printed_shape style) (suffix_marks style) (choice_marks style) (printed style) (printed_link style)
 
-pub suffix_written_at : (l : Suffix-F Shape Suffix Choice Expr Link) → suffix_marks (suffix_at l) ≡ print_suffix (suffix_layer l)
-suffix_written_at l = suffix_written (suffix_at l) ∙ ap (λ x. print_suffix (suffix_layer x)) (suffix_out_at l)
+pub suffix_written_at : (style : Brackets) → (l : Suffix-F Shape Suffix Choice Expr Link) → suffix_marks style (suffix_at l) ≡ print_suffix style (suffix_layer style l)
+suffix_written_at style l = suffix_written style (suffix_at l) ∙ ap (λ x. print_suffix style (suffix_layer style x)) (suffix_out_at l)
 
 -- 2. Without places
 
@@ -165,9 +166,9 @@ pub choice_span : (c : Choice) → span_of (out-Choice (bare_of_choice c)).test 
 choice_span c = ap (λ x. span_of (out-Choice x).test) (fold_out-Choice Shape Suffix Choice Expr Link bare_shape bare_suffix roll-Choice place_free roll-Link c) ∙ no_span (out-Choice c).test
 
 -- brackets change nothing that is written
-pub printed_span : (o : Span) (e : Expr) → printed e ≡ printed (bracketed o e)
-printed_span o e = fold_out-Expr Printed Marks Marks Printed PrintedLink print_shape print_suffix print_choice print_expr print_link e
-    ∙ sym (fold_out-Expr Printed Marks Marks Printed PrintedLink print_shape print_suffix print_choice print_expr print_link (bracketed o e))
+pub printed_span : (style : Brackets) → (o : Span) (e : Expr) → printed style e ≡ printed style (bracketed o e)
+printed_span style o e = fold_out-Expr Printed Marks Marks Printed PrintedLink (print_shape style) (print_suffix style) (print_choice style) print_expr (print_link style) e
+    ∙ sym (fold_out-Expr Printed Marks Marks Printed PrintedLink (print_shape style) (print_suffix style) (print_choice style) print_expr (print_link style) (bracketed o e))
 
 pub bare_span : (o : Span) (e : Expr) → bare_expr e ≡ bare_expr (bracketed o e)
 bare_span o e = bare_out e ∙ sym (bare_out (bracketed o e))
@@ -217,14 +218,17 @@ dot_bare x = ap (λ y. is_dot_layer (out-Suffix y)) (suffix_bare x) ∙ dot_laye
 
 -- 5. What is written, by its parts
 
-pub shape_written_at : (l : Shape-F Shape Suffix Choice Expr Link) → printed_shape (shape_at l) ≡ print_shape (shape_layer l)
-shape_written_at l = ap printed_shape (sym (rolls_at l)) ∙ fold-roll-Shape Printed Marks Marks Printed PrintedLink print_shape print_suffix print_choice print_expr print_link l
+pub shape_written_at : (style : Brackets) → (l : Shape-F Shape Suffix Choice Expr Link) → printed_shape style (shape_at l) ≡ print_shape style (shape_layer style l)
+shape_written_at style l = ap (printed_shape style) (sym (rolls_at l)) ∙ fold-roll-Shape Printed Marks Marks Printed PrintedLink (print_shape style) (print_suffix style) (print_choice style) print_expr (print_link style) l
 
-pub value_written : (e : Expr) → printed e ≡ printed_shape (out-Expr e).shape
-value_written e = fold_out-Expr Printed Marks Marks Printed PrintedLink print_shape print_suffix print_choice print_expr print_link e
+pub value_written : (style : Brackets) → (e : Expr) → printed style e ≡ printed_shape style (out-Expr e).shape
+value_written style e = fold_out-Expr Printed Marks Marks Printed PrintedLink (print_shape style) (print_suffix style) (print_choice style) print_expr (print_link style) e
 
-pub placed_in_brackets : (p : Place) (e : Expr) → stands p (printed_shape (out-Expr e).shape).grade ≡ false → in_brackets (printed_shape (out-Expr e).shape).marks ≡ placed p (printed e)
-placed_in_brackets p e h = ap (λ b. cond b (printed_shape (out-Expr e).shape).marks (in_brackets (printed_shape (out-Expr e).shape).marks)) (sym h) ∙ ap (placed p) (sym (value_written e))
+pub placed_in_brackets : (style : Brackets) → (p : Place) (e : Expr) → stands style p (printed_shape style (out-Expr e).shape).grade ≡ false → in_brackets (printed_shape style (out-Expr e).shape).marks ≡ placed style p (printed style e)
+placed_in_brackets style p e h = ap (λ b. cond b (printed_shape style (out-Expr e).shape).marks (in_brackets (printed_shape style (out-Expr e).shape).marks)) (sym h) ∙ ap (placed style p) (sym (value_written style e))
 
-pub choice_marks_out : (c : Choice) → choice_marks c ≡ print_choice (record { test = printed (out-Choice c).test; yes = printed (out-Choice c).yes })
-choice_marks_out c = fold_out-Choice Printed Marks Marks Printed PrintedLink print_shape print_suffix print_choice print_expr print_link c
+pub placed_bare : (style : Brackets) → (p : Place) (e : Expr) → stands style p (printed_shape style (out-Expr e).shape).grade ≡ true → (printed_shape style (out-Expr e).shape).marks ≡ placed style p (printed style e)
+placed_bare style p e h = ap (λ b. cond b (printed_shape style (out-Expr e).shape).marks (in_brackets (printed_shape style (out-Expr e).shape).marks)) (sym h) ∙ ap (placed style p) (sym (value_written style e))
+
+pub choice_marks_out : (style : Brackets) → (c : Choice) → choice_marks style c ≡ print_choice style (record { test = printed style (out-Choice c).test; yes = printed style (out-Choice c).yes })
+choice_marks_out style c = fold_out-Choice Printed Marks Marks Printed PrintedLink (print_shape style) (print_suffix style) (print_choice style) print_expr (print_link style) c

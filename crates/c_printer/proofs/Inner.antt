@@ -7,6 +7,7 @@ use Rattle.c_tree.specs.declared.unit.Include.TheVariants as include
 use Rattle.c_tree.specs.declared.unit.Item.{Item}
 use Rattle.c_tree.specs.declared.unit.Item.TheVariants as item
 use Rattle.c_tree.specs.Words.{is_file_name}
+use Rattle.c_printer.specs.declared.grade.Brackets.{Brackets}
 use Rattle.c_printer.specs.Marks.{Mark, Marks, ASign}
 use Rattle.c_printer.specs.PutItems.{item_marks}
 use Rattle.c_printer.specs.Writable.{IsWritable}
@@ -32,11 +33,11 @@ IsFile (include.Own x) = is_file_name x ≡ true
 IsFile f = Unit {0}
 
 -- an item whose names are words and whose numbers and texts can be written
-abbrev pub IsWritableItem : Item → Type 0
-IsWritableItem (item.Include f) = IsFile f
-IsWritableItem i = AreInner (item_marks i)
+abbrev pub IsWritableItem : (style : Brackets) → Item → Type 0
+IsWritableItem style (item.Include f) = IsFile f
+IsWritableItem style i = AreInner (item_marks style i)
 
 -- all of them
-abbrev pub AreWritableItems : List Item → Type 0
-AreWritableItems [] = Unit {0}
-AreWritableItems (i ∷ is) = IsWritableItem i × AreWritableItems is
+abbrev pub AreWritableItems : (style : Brackets) → List Item → Type 0
+AreWritableItems style [] = Unit {0}
+AreWritableItems style (i ∷ is) = IsWritableItem style i × (AreWritableItems style) is

@@ -24,6 +24,7 @@ use Rattle.c_tree.specs.Statements.{ReadsLocal, ReadsBlock}
 use Rattle.c_tree.specs.Items as it
 use Rattle.c_tree.specs.Items.{ReadsMember, member_is, ReadsMoreMembers, no_member, more_members, ReadsFields, no_field, more_fields, ReadsParameter, unnamed, named, ReadsMoreParameters, no_parameter, more_parameters, ReadsParameters, none_taken, some_taken, ReadsStatic, not_static, is_static, ReadsSignature, signature_is, ReadsItem, has_name, is_include}
 use Rattle.c_tree.specs.Bare.{nowhere, bare_name, bare_base, bare_type, bare_expr, bare_local, bare_block, bare_member, bare_parameter, bare_signature, bare_item}
+use Rattle.c_printer.specs.declared.grade.Brackets.{Brackets}
 use Rattle.c_printer.specs.Alike.{Like, Alike}
 use Rattle.c_printer.specs.Marks.{Marks, Name, ASign, Space, Line, token, word}
 use Rattle.c_printer.specs.PutValues.{type_marks, value_marks}
@@ -47,14 +48,14 @@ type_here {ns} {anyhow} {c} r al = let m = type_moved (type_read ns anyhow r) al
 declared_here : {ns : Names} {anyhow : Bool} {w z : Word} {c : CType} → ReadsType ns anyhow w c → Alike (word (declared_marks c)) z → MovedType ns anyhow z c
 declared_here {z} {c} r al = type_here r (subst (λ w. Alike w z) (word_append (type_marks c) (before_name c.stars) ∙ ap (λ w. word (type_marks c) ++ w) (nameless c.stars) ∙ append-nil (word (type_marks c))) al)
 
-constant_here : {ns : Names} {w z : Word} {a : Expr} → v.Reads ns true v.Value w a → Alike (word (value_marks a)) z → Kept (v.Reads ns true v.Value) bare_expr z a
-constant_here {ns} r al = let m = moved ns true (value_read ns true r) al in record { tree = m.tree; reads = m.reads; same = m.same ∙ value_twice ns true r }
+constant_here : (style : Brackets) → {ns : Names} {w z : Word} {a : Expr} → v.Reads ns true v.Value w a → Alike (word (value_marks style a)) z → Kept (v.Reads ns true v.Value) bare_expr z a
+constant_here style {ns} r al = let m = moved ns true (value_read style ns true r) al in record { tree = m.tree; reads = m.reads; same = m.same ∙ value_twice ns true r }
 
 local_here : {ns : Names} {w z : Word} {l : Local} → ReadsLocal ns w l → Alike (word (local_marks l)) z → Kept (ReadsLocal ns) bare_local z l
 local_here {l} r al = let m = local_moved (local_read r) al in record { tree = m.tree; reads = m.reads; same = m.same ∙ local_twice l }
 
-block_here : {ns : Names} (n : ℕ) {w z : Word} {b : Block} → ReadsBlock ns w b → Alike (word (block_marks b n)) z → Kept (ReadsBlock ns) bare_block z b
-block_here n r al = let m = block_moved (block_read n r) al in record { tree = m.tree; reads = m.reads; same = m.same ∙ block_twice r }
+block_here : (style : Brackets) → {ns : Names} (n : ℕ) {w z : Word} {b : Block} → ReadsBlock ns w b → Alike (word (block_marks style b n)) z → Kept (ReadsBlock ns) bare_block z b
+block_here style n r al = let m = block_moved (block_read style n r) al in record { tree = m.tree; reads = m.reads; same = m.same ∙ block_twice r }
 
 name_here : (x : List ℕ) {t : Token} → Like (token k.Identifier x) t → bare_name (name_at t) ≡ record { text = x; span = nowhere }
 name_here x l = ap (λ b. record { text = b; span = nowhere }) (l.named refl)
@@ -201,13 +202,13 @@ include_bare (item.Function f) = refl
 never : false ≡ true → ⊥
 never e = absurd cc
 
-pub item_here : {ns : Names} {w : Word} {i : Item} → ReadsItem ns w i → is_code i ≡ true → {z : Word} → Alike (word (item_marks i)) z → Kept (ReadsItem ns) bare_item z i
-item_here {ns} (it.includes a b c d e) h al = absurd (never h)
-item_here {ns} {i} (it.struct_type {n} i1 i2 i3 i4 i5) h al =
+pub item_here : (style : Brackets) → {ns : Names} {w : Word} {i : Item} → ReadsItem ns w i → is_code i ≡ true → {z : Word} → Alike (word (item_marks style i)) z → Kept (ReadsItem ns) bare_item z i
+item_here style {ns} (it.includes a b c d e) h al = absurd (never h)
+item_here style {ns} {i} (it.struct_type {n} i1 i2 i3 i4 i5) h al =
     at_token (λ z. Kept (ReadsItem ns) bare_item z i) al (λ t' y1 lt b1. at_token (λ z. Kept (ReadsItem ns) bare_item (t' ∷ z) i) b1 (λ s' y2 ls b2. at_token (λ z. Kept (ReadsItem ns) bare_item (t' ∷ s' ∷ z) i) b2 (λ g' y3 lg b3.
     at_token (λ z. Kept (ReadsItem ns) bare_item (t' ∷ s' ∷ g' ∷ z) i) b3 (λ n' y4 ln b4. at_token (λ z. Kept (ReadsItem ns) bare_item (t' ∷ s' ∷ g' ∷ n' ∷ z) i) b4 (λ e' y5 le b5. at_end (λ z. Kept (ReadsItem ns) bare_item (t' ∷ s' ∷ g' ∷ n' ∷ e' ∷ z) i) b5
     (record { tree = item.StructType (name_at n'); reads = it.struct_type lt.terminal ls.terminal (lg.terminal, lg.named refl ∙ sym (ap (λ x. 95 ∷ x) (ln.named refl))) ln.terminal le.terminal; same = ap item.StructType (name_here n.bytes ln) }))))))
-item_here {ns} {i} (it.struct_is {g} r e {x} {fs} i1 i2 i3 rf i4 i5) h al =
+item_here style {ns} {i} (it.struct_is {g} r e {x} {fs} i1 i2 i3 rf i4 i5) h al =
     at_token (λ z. Kept (ReadsItem ns) bare_item z i) al (λ s' y1 ls b1. at_token (λ z. Kept (ReadsItem ns) bare_item (s' ∷ z) i) b1 (λ g' y2 lg b2. at_token (λ z. Kept (ReadsItem ns) bare_item (s' ∷ g' ∷ z) i) b2 (λ l' y3 ll b3.
     at_marks (locals_marks 4 fs) closed_marks (λ z. Kept (ReadsItem ns) bare_item (s' ∷ g' ∷ l' ∷ z) i) b3 (λ w' y4 c1 c2.
     at_token (λ z. Kept (ReadsItem ns) bare_item (s' ∷ g' ∷ l' ∷ w' ++ z) i) c2 (λ r' y5 lr c3. at_token (λ z. Kept (ReadsItem ns) bare_item (s' ∷ g' ∷ l' ∷ w' ++ r' ∷ z) i) c3 (λ e' y6 le c4. at_end (λ z. Kept (ReadsItem ns) bare_item (s' ∷ g' ∷ l' ∷ w' ++ r' ∷ e' ∷ z) i) c4
@@ -217,7 +218,7 @@ item_here {ns} {i} (it.struct_is {g} r e {x} {fs} i1 i2 i3 rf i4 i5) h al =
       reads = it.struct_is r' e' ls.terminal (lg.terminal, lg.named refl) ll.terminal m.reads lr.terminal le.terminal;
       same = λ k. item.Struct (record { name = record { text = x; span = nowhere }; fields = m.same k });
     })))))))
-item_here {ns} {i} (it.enum_is r n e {m} {ms} i1 i2 i3 rm rms i4 i5 i6) h al =
+item_here style {ns} {i} (it.enum_is r n e {m} {ms} i1 i2 i3 rm rms i4 i5 i6) h al =
     at_token (λ z. Kept (ReadsItem ns) bare_item z i) al (λ t' y1 lt b1. at_token (λ z. Kept (ReadsItem ns) bare_item (t' ∷ z) i) b1 (λ s' y2 ls b2. at_token (λ z. Kept (ReadsItem ns) bare_item (t' ∷ s' ∷ z) i) b2 (λ l' y3 ll b3.
     at_marks (member_line m ++ more_members_marks ms) (enum_end_marks (name_at n)) (λ z. Kept (ReadsItem ns) bare_item (t' ∷ s' ∷ l' ∷ z) i) b3 (λ x4 y4 c1 c2.
     at_marks (member_line m) (more_members_marks ms) (λ z. Kept (ReadsItem ns) bare_item (t' ∷ s' ∷ l' ∷ z ++ y4) i) c1 (λ u' w' d1 d2.
@@ -229,7 +230,7 @@ item_here {ns} {i} (it.enum_is r n e {m} {ms} i1 i2 i3 rm rms i4 i5 i6) h al =
       reads = it.enum_is r' n' e' lt.terminal ls.terminal ll.terminal p.reads q.reads lr.terminal ln.terminal le.terminal;
       same = λ k. item.Enumeration (record { members = p.same k ∷ q.same k; name = name_here n.bytes ln k });
     })))))))))
-item_here {ns} {i} (it.function_type o s n c e {r} {ps} i1 rc i2 i3 i4 i5 rp i6) h al =
+item_here style {ns} {i} (it.function_type o s n c e {r} {ps} i1 rc i2 i3 i4 i5 rp i6) h al =
     at_token (λ z. Kept (ReadsItem ns) bare_item z i) al (λ t' y1 lt b1.
     at_marks (declared_marks r ++ taken_by_pointer (name_at n) ps) (ASign sign.Semicolon ∷ []) (λ z. Kept (ReadsItem ns) bare_item (t' ∷ z) i) b1 (λ x2 y2 c1 c2.
     at_marks (declared_marks r) (taken_by_pointer (name_at n) ps) (λ z. Kept (ReadsItem ns) bare_item (t' ∷ z ++ y2) i) c1 (λ u' x3 d1 d2.
@@ -242,23 +243,23 @@ item_here {ns} {i} (it.function_type o s n c e {r} {ps} i1 rc i2 i3 i4 i5 rp i6)
       reads = it.function_type o' s' n' c' e' lt.terminal m.reads lo.terminal ls.terminal ln.terminal lc.terminal q.reads le.terminal;
       same = λ k. item.FunctionType (record { is_static = false; result = m.same k; name = name_here n.bytes ln k; parameters = q.same k; span = nowhere });
     })))))))))
-item_here {ns} {i} (it.prototype e {s} rs i1) h al =
+item_here style {ns} {i} (it.prototype e {s} rs i1) h al =
     at_marks (signature_marks s) (ASign sign.Semicolon ∷ []) (λ z. Kept (ReadsItem ns) bare_item z i) al (λ x y a1 a2.
     at_token (λ z. Kept (ReadsItem ns) bare_item (x ++ z) i) a2 (λ e' y1 le b. at_end (λ z. Kept (ReadsItem ns) bare_item (x ++ e' ∷ z) i) b
     (let m = signature_here rs a1 in record { tree = item.Prototype m.tree; reads = it.prototype e' m.reads le.terminal; same = ap item.Prototype m.same })))
-item_here {ns} {i} (it.static_variable n a e {c} {x = y} i1 rc o i2 i3 ra i4) h al =
+item_here style {ns} {i} (it.static_variable n a e {c} {x = y} i1 rc o i2 i3 ra i4) h al =
     at_token (λ z. Kept (ReadsItem ns) bare_item z i) al (λ t' y1 lt b1.
-    at_marks (declared_marks c ++ set_marks (name_at n) y) (ASign sign.Semicolon ∷ []) (λ z. Kept (ReadsItem ns) bare_item (t' ∷ z) i) b1 (λ x2 y2 c1 c2.
-    at_marks (declared_marks c) (set_marks (name_at n) y) (λ z. Kept (ReadsItem ns) bare_item (t' ∷ z ++ y2) i) c1 (λ u' x3 d1 d2.
+    at_marks (declared_marks c ++ set_marks style (name_at n) y) (ASign sign.Semicolon ∷ []) (λ z. Kept (ReadsItem ns) bare_item (t' ∷ z) i) b1 (λ x2 y2 c1 c2.
+    at_marks (declared_marks c) (set_marks style (name_at n) y) (λ z. Kept (ReadsItem ns) bare_item (t' ∷ z ++ y2) i) c1 (λ u' x3 d1 d2.
     at_token (λ z. Kept (ReadsItem ns) bare_item (t' ∷ u' ++ z ++ y2) i) d2 (λ n' x4 ln d3. at_token (λ z. Kept (ReadsItem ns) bare_item (t' ∷ u' ++ n' ∷ z ++ y2) i) d3 (λ a' w' la d4.
     at_token (λ z. Kept (ReadsItem ns) bare_item (t' ∷ u' ++ n' ∷ a' ∷ w' ++ z) i) c2 (λ e' y3 le c3. at_end (λ z. Kept (ReadsItem ns) bare_item (t' ∷ u' ++ n' ∷ a' ∷ w' ++ e' ∷ z) i) c3
-    (let m = declared_here rc d1 in let q = constant_here ra d4 in
+    (let m = declared_here rc d1 in let q = constant_here style ra d4 in
     record {
       tree = item.Variable (record { declared = m.tree; name = name_at n'; value = q.tree });
       reads = it.static_variable n' a' e' lt.terminal m.reads (same_object m.tree c m.same ∙ o) ln.terminal la.terminal q.reads le.terminal;
       same = λ k. item.Variable (record { declared = m.same k; name = name_here n.bytes ln k; value = q.same k });
     })))))))
-item_here {ns} {i} (it.interface_table {n} {f} i1 i2 i3 i4 i5 i6 i7 i8 i9 j1 j2 j3 j4 j5 j6 j7) h al =
+item_here style {ns} {i} (it.interface_table {n} {f} i1 i2 i3 i4 i5 i6 i7 i8 i9 j1 j2 j3 j4 j5 j6 j7) h al =
     at_token (λ z. Kept (ReadsItem ns) bare_item z i) al (λ t1 y1 l1 b1. at_token (λ z. Kept (ReadsItem ns) bare_item (t1 ∷ z) i) b1 (λ t2 y2 l2 b2. at_token (λ z. Kept (ReadsItem ns) bare_item (t1 ∷ t2 ∷ z) i) b2 (λ t3 y3 l3 b3.
     at_token (λ z. Kept (ReadsItem ns) bare_item (t1 ∷ t2 ∷ t3 ∷ z) i) b3 (λ t4 y4 l4 b4. at_token (λ z. Kept (ReadsItem ns) bare_item (t1 ∷ t2 ∷ t3 ∷ t4 ∷ z) i) b4 (λ t5 y5 l5 b5. at_token (λ z. Kept (ReadsItem ns) bare_item (t1 ∷ t2 ∷ t3 ∷ t4 ∷ t5 ∷ z) i) b5 (λ t6 y6 l6 b6.
     at_token (λ z. Kept (ReadsItem ns) bare_item (t1 ∷ t2 ∷ t3 ∷ t4 ∷ t5 ∷ t6 ∷ z) i) b6 (λ t7 y7 l7 b7. at_token (λ z. Kept (ReadsItem ns) bare_item (t1 ∷ t2 ∷ t3 ∷ t4 ∷ t5 ∷ t6 ∷ t7 ∷ z) i) b7 (λ t8 y8 l8 b8.
@@ -272,9 +273,9 @@ item_here {ns} {i} (it.interface_table {n} {f} i1 i2 i3 i4 i5 i6 i7 i8 i9 j1 j2 
       reads = it.interface_table l1.terminal l2.terminal (l3.terminal, l3.named refl) l4.terminal l5.terminal l6.terminal l7.terminal (l8.terminal, l8.named refl) l9.terminal la.terminal lb.terminal lc.terminal ld.terminal le.terminal lf.terminal lg.terminal;
       same = λ k. item.InterfaceTable (record { name = name_here n.bytes l4 k; init = name_here f.bytes la k });
     })))))))))))))))))
-item_here {ns} {i} (it.function_is {s} {b} rs names rb) h al =
-    at_marks (signature_marks s) (Line 0 ∷ block_marks b 0) (λ z. Kept (ReadsItem ns) bare_item z i) al (λ x y a1 a2.
-    let m = signature_here rs a1 in let q = block_here 0 rb a2 in
+item_here style {ns} {i} (it.function_is {s} {b} rs names rb) h al =
+    at_marks (signature_marks s) (Line 0 ∷ block_marks style b 0) (λ z. Kept (ReadsItem ns) bare_item z i) al (λ x y a1 a2.
+    let m = signature_here rs a1 in let q = block_here style 0 rb a2 in
     record {
       tree = item.Function (record { signature = m.tree; body = q.tree });
       reads = it.function_is m.reads (sym (names_bare m.tree.parameters) ∙ ap (λ t. list_all has_name t.parameters) m.same ∙ names_bare s.parameters ∙ names) (subst (λ n. ReadsBlock n y q.tree) (sym (scope m.tree m.same)) q.reads);

@@ -22,4 +22,7 @@ mod WordKinds
 mod TokensOfBytes
 mod GivenValues
 mod GivenItems
+mod Nesting
+mod NestingValues
+mod NestingItems
 mod UnitReading

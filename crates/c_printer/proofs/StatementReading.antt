@@ -25,6 +25,7 @@ use Rattle.c_tree.specs.Make.{name_at, block}
 use Rattle.c_tree.specs.Statements as st
 use Rattle.c_tree.specs.Statements.{ReadsStmt, ReadsStmts, ReadsBlock, ReadsLocal, local_is, ReadsLocals, no_local, more_locals, ReadsNumber, number_is, negative_is, ReadsCall, call_value, call_row, call_type_row, ReadsPlace, place_is, ReadsGoto, goto_is, ReadsCases, no_case, more_cases}
 use Rattle.c_tree.specs.Bare.{nowhere, bare_name, bare_expr, bare_local, bare_call, bare_case, bare_stmt, bare_block}
+use Rattle.c_printer.specs.declared.grade.Brackets.{Brackets}
 use Rattle.c_printer.specs.declared.grade.Place.TheVariants.{BehindPrefix}
 use Rattle.c_printer.specs.Marks.{Marks, Name, AKeyword, ASign, Space, Line, token, word}
 use Rattle.c_printer.specs.PutValues.{type_marks, in_brackets, placed, printed, value_marks, arguments_marks, more_arguments_marks, spaced}
@@ -39,7 +40,7 @@ pub nameless : (n : ℕ) → word (before_name n) ≡ []
 nameless zero = refl
 nameless (suc n) = refl
 
-local_word : (l : Local) → word (local_marks l) ≡ word (type_marks l.declared) ++ token k.Identifier l.name.text ∷ token (k.Sign sign.Semicolon) [] ∷ []
+pub local_word : (l : Local) → word (local_marks l) ≡ word (type_marks l.declared) ++ token k.Identifier l.name.text ∷ token (k.Sign sign.Semicolon) [] ∷ []
 local_word l = word_append (type_marks l.declared ++ before_name l.declared.stars) (Name l.name.text ∷ ASign sign.Semicolon ∷ [])
     ∙ ap (λ w. w ++ token k.Identifier l.name.text ∷ token (k.Sign sign.Semicolon) [] ∷ [])
     (word_append (type_marks l.declared) (before_name l.declared.stars) ∙ ap (λ w. word (type_marks l.declared) ++ w) (nameless l.declared.stars) ∙ append-nil (word (type_marks l.declared)))
@@ -66,8 +67,8 @@ number_read (negative_is i j) = negative_is refl refl
 pub goto_read : (x : tree.Name) → ReadsGoto (word (goto_marks x)) (token k.Identifier x.text)
 goto_read x = goto_is refl refl refl
 
-pub place_read : {ns : Names} {w : Word} {a : Expr} → ReadsPlace ns w a → ReadsPlace ns (word (place_marks a)) (bare_expr a)
-place_read {ns} (place_is {a} r h) = place_is (operand_read ns false level.Product a r) (place_bare a ∙ h)
+pub place_read : (style : Brackets) → {ns : Names} {w : Word} {a : Expr} → ReadsPlace ns w a → ReadsPlace ns (word (place_marks style a)) (bare_expr a)
+place_read style {ns} (place_is {a} r h) = place_is (operand_read style ns false level.Product a r) (place_bare a ∙ h)
 
 pub cases_read : (d : ℕ) {w : Word} {cs : List Case} → ReadsCases w cs → ReadsCases (word (cases_marks d cs)) (map bare_case cs)
 cases_read d no_case = no_case
@@ -81,28 +82,28 @@ cases_read d (more_cases s n {x} {cs} i r j g rest) = subst (λ w. ReadsCases (t
 
 -- 3. Calls
 
-call_word : (c : Call) → word (call_marks c) ≡ word (callee_marks c.callee) ++ token (k.Sign sign.OpenParen) [] ∷ word (between_marks c.type_argument c.arguments) ++ token (k.Sign sign.CloseParen) [] ∷ []
-call_word c = word_append (callee_marks c.callee) (Space ∷ in_brackets (between_marks c.type_argument c.arguments))
-    ∙ ap (λ w. word (callee_marks c.callee) ++ token (k.Sign sign.OpenParen) [] ∷ w) (word_append (between_marks c.type_argument c.arguments) (ASign sign.CloseParen ∷ []))
-    ∙ sym (append_assoc (word (callee_marks c.callee)) (token (k.Sign sign.OpenParen) [] ∷ word (between_marks c.type_argument c.arguments)) (token (k.Sign sign.CloseParen) [] ∷ []))
+pub call_word : (style : Brackets) → (c : Call) → word (call_marks style c) ≡ word (callee_marks style c.callee) ++ token (k.Sign sign.OpenParen) [] ∷ word (between_marks style c.type_argument c.arguments) ++ token (k.Sign sign.CloseParen) [] ∷ []
+call_word style c = word_append (callee_marks style c.callee) (Space ∷ in_brackets (between_marks style c.type_argument c.arguments))
+    ∙ ap (λ w. word (callee_marks style c.callee) ++ token (k.Sign sign.OpenParen) [] ∷ w) (word_append (between_marks style c.type_argument c.arguments) (ASign sign.CloseParen ∷ []))
+    ∙ sym (append_assoc (word (callee_marks style c.callee)) (token (k.Sign sign.OpenParen) [] ∷ word (between_marks style c.type_argument c.arguments)) (token (k.Sign sign.CloseParen) [] ∷ []))
 
-pub call_read : {ns : Names} {w : Word} {c : Call} → ReadsCall ns w c → ReadsCall ns (word (call_marks c)) (bare_call c)
-call_read {ns} {c} (call_value t s {a} {xs} ra i r j) = subst (λ w. ReadsCall ns w (bare_call c)) (sym (call_word c))
-    (subst (λ o. ReadsCall ns (word (placed BehindPrefix (printed a)) ++ token (k.Sign sign.OpenParen) [] ∷ word (arguments_marks xs) ++ token (k.Sign sign.CloseParen) [] ∷ []) (record { callee = callee.Value (bare_expr a); type_argument = None; arguments = map bare_expr xs; span = o })) (ap (λ o. join o nowhere) (no_span a))
-    (call_value (token (k.Sign sign.OpenParen) []) (token (k.Sign sign.CloseParen) []) (callee_read ns false a ra) refl (arguments_read ns false xs r) refl))
-call_read {ns} {c} (call_row {n} s {xs} i h j r m) = subst (λ w. ReadsCall ns w (bare_call c)) (sym (call_word c))
-    (call_row (token (k.Sign sign.CloseParen) []) refl h refl (arguments_read ns false xs r) refl)
-call_read {ns} {c} (call_type_row {n} s {c = d} {xs} i h j t o r m) = subst (λ w. ReadsCall ns w (bare_call c)) (sym (call_word c))
-    (subst (λ w. ReadsCall ns (token k.Identifier n.bytes ∷ token (k.Sign sign.OpenParen) [] ∷ w ++ token (k.Sign sign.CloseParen) [] ∷ []) (bare_call c)) (sym (word_append (type_marks d) (more_arguments_marks xs)))
-    (call_type_row (token (k.Sign sign.CloseParen) []) refl h refl (type_read ns true t) (object_bare d ∙ o) (more_read ns false xs r) refl))
+pub call_read : (style : Brackets) → {ns : Names} {w : Word} {c : Call} → ReadsCall ns w c → ReadsCall ns (word (call_marks style c)) (bare_call c)
+call_read style {ns} {c} (call_value t s {a} {xs} ra i r j) = subst (λ w. ReadsCall ns w (bare_call c)) (sym (call_word style c))
+    (subst (λ o. ReadsCall ns (word (placed style BehindPrefix (printed style a)) ++ token (k.Sign sign.OpenParen) [] ∷ word (arguments_marks style xs) ++ token (k.Sign sign.CloseParen) [] ∷ []) (record { callee = callee.Value (bare_expr a); type_argument = None; arguments = map bare_expr xs; span = o })) (ap (λ o. join o nowhere) (no_span a))
+    (call_value (token (k.Sign sign.OpenParen) []) (token (k.Sign sign.CloseParen) []) (callee_read style ns false a ra) refl (arguments_read style ns false xs r) refl))
+call_read style {ns} {c} (call_row {n} s {xs} i h j r m) = subst (λ w. ReadsCall ns w (bare_call c)) (sym (call_word style c))
+    (call_row (token (k.Sign sign.CloseParen) []) refl h refl (arguments_read style ns false xs r) refl)
+call_read style {ns} {c} (call_type_row {n} s {c = d} {xs} i h j t o r m) = subst (λ w. ReadsCall ns w (bare_call c)) (sym (call_word style c))
+    (subst (λ w. ReadsCall ns (token k.Identifier n.bytes ∷ token (k.Sign sign.OpenParen) [] ∷ w ++ token (k.Sign sign.CloseParen) [] ∷ []) (bare_call c)) (sym (word_append (type_marks d) (more_arguments_marks style xs)))
+    (call_type_row (token (k.Sign sign.CloseParen) []) refl h refl (type_read ns true t) (object_bare d ∙ o) (more_read style ns false xs r) refl))
 
 -- 4. Statements, one level after another
 
 abbrev pub bare_of_stmt : Stmt → Stmt
 bare_of_stmt = fold-Stmt Stmt Block bare_stmt (λ b. block (map bare_local b.locals) b.body nowhere)
 
-abbrev pub stmt_layer : Stmt-F Stmt Block → Stmt-F Indented Indented
-stmt_layer = map-Stmt Stmt Block Indented Indented stmt_marks block_marks
+abbrev pub stmt_layer : (style : Brackets) → Stmt-F Stmt Block → Stmt-F Indented Indented
+stmt_layer style = map-Stmt Stmt Block Indented Indented (stmt_marks style) (block_marks style)
 
 abbrev pub stmt_bare_layer : Stmt-F Stmt Block → Stmt-F Stmt Block
 stmt_bare_layer = map-Stmt Stmt Block Stmt Block bare_of_stmt bare_block
@@ -131,31 +132,31 @@ stmt_rolls_at (Stmt-F.Switch a cs x) = stmt.rolls-Switch a cs x
 stmt_rolls_at (Stmt-F.Return o e) = stmt.rolls-Return o e
 stmt_rolls_at (Stmt-F.Block b) = stmt.rolls-Block b
 
-pub stmt_written : (l : Stmt-F Stmt Block) → stmt_marks (stmt_at l) ≡ print_stmt (stmt_layer l)
-stmt_written l = ap stmt_marks (sym (stmt_rolls_at l)) ∙ fold-roll-Stmt Indented Indented print_stmt print_block l
+pub stmt_written : (style : Brackets) → (l : Stmt-F Stmt Block) → stmt_marks style (stmt_at l) ≡ print_stmt style (stmt_layer style l)
+stmt_written style l = ap (stmt_marks style) (sym (stmt_rolls_at l)) ∙ fold-roll-Stmt Indented Indented (print_stmt style) print_block l
 
 pub stmt_bare : (l : Stmt-F Stmt Block) → bare_of_stmt (stmt_at l) ≡ bare_stmt (stmt_bare_layer l)
 stmt_bare l = ap bare_of_stmt (sym (stmt_rolls_at l)) ∙ fold-roll-Stmt Stmt Block bare_stmt (λ b. block (map bare_local b.locals) b.body nowhere) l
 
-pub block_written : (ls : List Local) (ss : List Stmt) (o : Span) → block_marks (block ls ss o) ≡ print_block (record { locals = ls; body = map stmt_marks ss; span = o })
-block_written ls ss o = fold_out-Block Indented Indented print_stmt print_block (block ls ss o)
+pub block_written : (style : Brackets) → (ls : List Local) (ss : List Stmt) (o : Span) → block_marks style (block ls ss o) ≡ print_block (record { locals = ls; body = map (stmt_marks style) ss; span = o })
+block_written style ls ss o = fold_out-Block Indented Indented (print_stmt style) print_block (block ls ss o)
 
 -- a statement and a block as their code sees them
-pub if_written : (a : Expr) (b : Block) (o : Option Block) (n : ℕ) → stmt_marks (stmt.If a b o) n ≡ if_marks a (block_marks b) (else_block_marks o) n
-if_written a b None n = ap (λ (m : Indented). m n) (stmt_written (Stmt-F.If a b None))
-if_written a b (Some d) n = ap (λ (m : Indented). m n) (stmt_written (Stmt-F.If a b (Some d)))
+pub if_written : (style : Brackets) → (a : Expr) (b : Block) (o : Option Block) (n : ℕ) → stmt_marks style (stmt.If a b o) n ≡ if_marks style a (block_marks style b) (else_block_marks style o) n
+if_written style a b None n = ap (λ (m : Indented). m n) (stmt_written style (Stmt-F.If a b None))
+if_written style a b (Some d) n = ap (λ (m : Indented). m n) (stmt_written style (Stmt-F.If a b (Some d)))
 
-pub head_apart : (a : Expr) (ms : Marks) → if_head_marks a ++ ms ≡ tested keyword.If a ++ Space ∷ ms
-head_apart a ms = append_assoc (tested keyword.If a) (Space ∷ []) ms
+pub head_apart : (style : Brackets) → (a : Expr) (ms : Marks) → if_head_marks style a ++ ms ≡ tested style keyword.If a ++ Space ∷ ms
+head_apart style a ms = append_assoc (tested style keyword.If a) (Space ∷ []) ms
 
-pub block_out : (b : Block) (n : ℕ) → block_marks b n ≡ ASign sign.OpenBrace ∷ locals_marks (deeper n) (out-Block b).locals ++ lines (deeper n) (map stmt_marks (out-Block b).body) ++ close_marks n
-block_out b n = ap (λ (m : Indented). m n) (fold_out-Block Indented Indented print_stmt print_block b)
+pub block_out : (style : Brackets) → (b : Block) (n : ℕ) → block_marks style b n ≡ ASign sign.OpenBrace ∷ locals_marks (deeper n) (out-Block b).locals ++ lines (deeper n) (map (stmt_marks style) (out-Block b).body) ++ close_marks n
+block_out style b n = ap (λ (m : Indented). m n) (fold_out-Block Indented Indented (print_stmt style) print_block b)
 
 pub block_bare : (ls : List Local) (ss : List Stmt) (o : Span) → bare_block (block ls ss o) ≡ block (map bare_local ls) (map bare_of_stmt ss) nowhere
 block_bare ls ss o = fold_out-Block Stmt Block bare_stmt (λ b. block (map bare_local b.locals) b.body nowhere) (block ls ss o)
 
-made : (ns : Names) (l : Stmt-F Stmt Block) (n : ℕ) → ReadsStmt ns (word (print_stmt (stmt_layer l) n)) (bare_stmt (stmt_bare_layer l)) → ReadsStmt ns (word (stmt_marks (stmt_at l) n)) (bare_of_stmt (stmt_at l))
-made ns l n r = subst (λ (m : Indented). ReadsStmt ns (word (m n)) (bare_of_stmt (stmt_at l))) (sym (stmt_written l)) (subst (ReadsStmt ns (word (print_stmt (stmt_layer l) n))) (sym (stmt_bare l)) r)
+made : (style : Brackets) → (ns : Names) (l : Stmt-F Stmt Block) (n : ℕ) → ReadsStmt ns (word (print_stmt style (stmt_layer style l) n)) (bare_stmt (stmt_bare_layer l)) → ReadsStmt ns (word (stmt_marks style (stmt_at l) n)) (bare_of_stmt (stmt_at l))
+made style ns l n r = subst (λ (m : Indented). ReadsStmt ns (word (m n)) (bare_of_stmt (stmt_at l))) (sym (stmt_written style l)) (subst (ReadsStmt ns (word (print_stmt style (stmt_layer style l) n))) (sym (stmt_bare l)) r)
 
 -- 5. Their tokens
 
@@ -165,62 +166,62 @@ of_sign s = token (k.Sign s) []
 abbrev of_word : Keyword → Token
 of_word w = token (k.Keyword w) []
 
-assign_word : (a : Expr) (ms : Marks) → word (ended (to_place a ++ ms)) ≡ word (place_marks a) ++ of_sign sign.Assign ∷ word ms ++ of_sign sign.Semicolon ∷ []
-assign_word a ms = word_append (to_place a ++ ms) (ASign sign.Semicolon ∷ [])
-    ∙ ap (λ w. w ++ of_sign sign.Semicolon ∷ []) (word_append (to_place a) ms ∙ ap (λ w. w ++ word ms) (word_append (place_marks a) (spaced sign.Assign)) ∙ append_assoc (word (place_marks a)) (of_sign sign.Assign ∷ []) (word ms))
+pub assign_word : (style : Brackets) → (a : Expr) (ms : Marks) → word (ended (to_place style a ++ ms)) ≡ word (place_marks style a) ++ of_sign sign.Assign ∷ word ms ++ of_sign sign.Semicolon ∷ []
+assign_word style a ms = word_append (to_place style a ++ ms) (ASign sign.Semicolon ∷ [])
+    ∙ ap (λ w. w ++ of_sign sign.Semicolon ∷ []) (word_append (to_place style a) ms ∙ ap (λ w. w ++ word ms) (word_append (place_marks style a) (spaced sign.Assign)) ∙ append_assoc (word (place_marks style a)) (of_sign sign.Assign ∷ []) (word ms))
 
-test_word : (w : Keyword) (a : Expr) (ms : Marks) → word (tested w a ++ Space ∷ ms) ≡ of_word w ∷ of_sign sign.OpenParen ∷ word (value_marks a) ++ of_sign sign.CloseParen ∷ word ms
-test_word w a ms = word_append (tested w a) (Space ∷ ms)
-    ∙ ap (λ u. of_word w ∷ of_sign sign.OpenParen ∷ u ++ word ms) (word_append (value_marks a) (ASign sign.CloseParen ∷ []))
-    ∙ ap (λ u. of_word w ∷ of_sign sign.OpenParen ∷ u) (append_assoc (word (value_marks a)) (of_sign sign.CloseParen ∷ []) (word ms))
+pub test_word : (style : Brackets) → (w : Keyword) (a : Expr) (ms : Marks) → word (tested style w a ++ Space ∷ ms) ≡ of_word w ∷ of_sign sign.OpenParen ∷ word (value_marks style a) ++ of_sign sign.CloseParen ∷ word ms
+test_word style w a ms = word_append (tested style w a) (Space ∷ ms)
+    ∙ ap (λ u. of_word w ∷ of_sign sign.OpenParen ∷ u ++ word ms) (word_append (value_marks style a) (ASign sign.CloseParen ∷ []))
+    ∙ ap (λ u. of_word w ∷ of_sign sign.OpenParen ∷ u) (append_assoc (word (value_marks style a)) (of_sign sign.CloseParen ∷ []) (word ms))
 
-if_word : (a : Expr) (ms : Marks) → word (tested keyword.If a ++ Space ∷ ms ++ []) ≡ of_word keyword.If ∷ of_sign sign.OpenParen ∷ word (value_marks a) ++ of_sign sign.CloseParen ∷ word ms
-if_word a ms = ap word (append-nil (tested keyword.If a ++ Space ∷ ms)) ∙ test_word keyword.If a ms
+pub if_word : (style : Brackets) → (a : Expr) (ms : Marks) → word (tested style keyword.If a ++ Space ∷ ms ++ []) ≡ of_word keyword.If ∷ of_sign sign.OpenParen ∷ word (value_marks style a) ++ of_sign sign.CloseParen ∷ word ms
+if_word style a ms = ap word (append-nil (tested style keyword.If a ++ Space ∷ ms)) ∙ test_word style keyword.If a ms
 
-else_word : (a : Expr) (ms xs : Marks) → word (tested keyword.If a ++ Space ∷ ms ++ Space ∷ AKeyword keyword.Else ∷ Space ∷ xs)
-    ≡ of_word keyword.If ∷ of_sign sign.OpenParen ∷ word (value_marks a) ++ of_sign sign.CloseParen ∷ word ms ++ of_word keyword.Else ∷ word xs
-else_word a ms xs = word_append (tested keyword.If a ++ Space ∷ ms) (Space ∷ AKeyword keyword.Else ∷ Space ∷ xs) ∙ ap (λ w. w ++ of_word keyword.Else ∷ word xs) (test_word keyword.If a ms)
+pub else_word : (style : Brackets) → (a : Expr) (ms xs : Marks) → word (tested style keyword.If a ++ Space ∷ ms ++ Space ∷ AKeyword keyword.Else ∷ Space ∷ xs)
+    ≡ of_word keyword.If ∷ of_sign sign.OpenParen ∷ word (value_marks style a) ++ of_sign sign.CloseParen ∷ word ms ++ of_word keyword.Else ∷ word xs
+else_word style a ms xs = word_append (tested style keyword.If a ++ Space ∷ ms) (Space ∷ AKeyword keyword.Else ∷ Space ∷ xs) ∙ ap (λ w. w ++ of_word keyword.Else ∷ word xs) (test_word style keyword.If a ms)
 
-switch_word : (a : Expr) (n : ℕ) (cs ms : Marks) → word (tested keyword.Switch a ++ Space ∷ ASign sign.OpenBrace ∷ cs ++ Line n ∷ AKeyword keyword.Default ∷ ASign sign.Colon ∷ Space ∷ ms ++ Line n ∷ ASign sign.CloseBrace ∷ [])
-    ≡ of_word keyword.Switch ∷ of_sign sign.OpenParen ∷ word (value_marks a) ++ of_sign sign.CloseParen ∷ of_sign sign.OpenBrace ∷ word cs ++ of_word keyword.Default ∷ of_sign sign.Colon ∷ word ms ++ of_sign sign.CloseBrace ∷ []
-switch_word a n cs ms = word_append (tested keyword.Switch a ++ Space ∷ ASign sign.OpenBrace ∷ cs ++ Line n ∷ AKeyword keyword.Default ∷ ASign sign.Colon ∷ Space ∷ ms) (Line n ∷ ASign sign.CloseBrace ∷ [])
-    ∙ ap (λ w. w ++ of_sign sign.CloseBrace ∷ []) (word_append (tested keyword.Switch a ++ Space ∷ ASign sign.OpenBrace ∷ cs) (Line n ∷ AKeyword keyword.Default ∷ ASign sign.Colon ∷ Space ∷ ms)
-    ∙ ap (λ w. w ++ of_word keyword.Default ∷ of_sign sign.Colon ∷ word ms) (test_word keyword.Switch a (ASign sign.OpenBrace ∷ cs)))
+pub switch_word : (style : Brackets) → (a : Expr) (n : ℕ) (cs ms : Marks) → word (tested style keyword.Switch a ++ Space ∷ ASign sign.OpenBrace ∷ cs ++ Line n ∷ AKeyword keyword.Default ∷ ASign sign.Colon ∷ Space ∷ ms ++ Line n ∷ ASign sign.CloseBrace ∷ [])
+    ≡ of_word keyword.Switch ∷ of_sign sign.OpenParen ∷ word (value_marks style a) ++ of_sign sign.CloseParen ∷ of_sign sign.OpenBrace ∷ word cs ++ of_word keyword.Default ∷ of_sign sign.Colon ∷ word ms ++ of_sign sign.CloseBrace ∷ []
+switch_word style a n cs ms = word_append (tested style keyword.Switch a ++ Space ∷ ASign sign.OpenBrace ∷ cs ++ Line n ∷ AKeyword keyword.Default ∷ ASign sign.Colon ∷ Space ∷ ms) (Line n ∷ ASign sign.CloseBrace ∷ [])
+    ∙ ap (λ w. w ++ of_sign sign.CloseBrace ∷ []) (word_append (tested style keyword.Switch a ++ Space ∷ ASign sign.OpenBrace ∷ cs) (Line n ∷ AKeyword keyword.Default ∷ ASign sign.Colon ∷ Space ∷ ms)
+    ∙ ap (λ w. w ++ of_word keyword.Default ∷ of_sign sign.Colon ∷ word ms) (test_word style keyword.Switch a (ASign sign.OpenBrace ∷ cs)))
 
-block_word : (n : ℕ) (ls ms : Marks) → word (ASign sign.OpenBrace ∷ ls ++ ms ++ Line n ∷ ASign sign.CloseBrace ∷ []) ≡ of_sign sign.OpenBrace ∷ word ls ++ word ms ++ of_sign sign.CloseBrace ∷ []
+pub block_word : (n : ℕ) (ls ms : Marks) → word (ASign sign.OpenBrace ∷ ls ++ ms ++ Line n ∷ ASign sign.CloseBrace ∷ []) ≡ of_sign sign.OpenBrace ∷ word ls ++ word ms ++ of_sign sign.CloseBrace ∷ []
 block_word n ls ms = ap (λ w. of_sign sign.OpenBrace ∷ w) (word_append (ls ++ ms) (Line n ∷ ASign sign.CloseBrace ∷ []) ∙ ap (λ w. w ++ of_sign sign.CloseBrace ∷ []) (word_append ls ms))
 
 -- 6. All statements
 
 mutual
-  pub stmt_read : {ns : Names} {w : Word} {s : Stmt} (n : ℕ) → ReadsStmt ns w s → ReadsStmt ns (word (stmt_marks s n)) (bare_of_stmt s)
-  stmt_read {ns} n (st.assigns t e {a} {b} p i r j) = made ns (Stmt-F.Assign a b) n (subst (λ w. ReadsStmt ns w (stmt.Assign (bare_expr a) (bare_expr b))) (sym (assign_word a (value_marks b)))
-      (st.assigns (of_sign sign.Assign) (of_sign sign.Semicolon) (place_read p) refl (value_read ns false r) refl))
-  stmt_read {ns} n (st.calls e {c} r i) = made ns (Stmt-F.Call c) n (subst (λ w. ReadsStmt ns w (stmt.Call (bare_call c))) (sym (word_append (call_marks c) (ASign sign.Semicolon ∷ []))) (st.calls (of_sign sign.Semicolon) (call_read r) refl))
-  stmt_read {ns} n (st.stores t e {a} {c} p i r j) = made ns (Stmt-F.Store a c) n (subst (λ w. ReadsStmt ns w (stmt.Store (bare_expr a) (bare_call c))) (sym (assign_word a (call_marks c)))
-      (st.stores (of_sign sign.Assign) (of_sign sign.Semicolon) (place_read p) refl (call_read r) refl))
-  stmt_read {ns} n (st.if_block s {a} {b} i j r h rb) = made ns (Stmt-F.If a b None) n (subst (λ w. ReadsStmt ns w (stmt.If (bare_expr a) (bare_block b) None)) (sym (if_word a (block_marks b n)))
-      (st.if_block (of_sign sign.CloseParen) refl refl (value_read ns false r) refl (block_read n rb)))
-  stmt_read {ns} n (st.if_else s l {a} {b} {d} i j r h rb m rd) = made ns (Stmt-F.If a b (Some d)) n (subst (λ w. ReadsStmt ns w (stmt.If (bare_expr a) (bare_block b) (Some (bare_block d)))) (sym (else_word a (block_marks b n) (block_marks d n)))
-      (st.if_else (of_sign sign.CloseParen) (of_word keyword.Else) refl refl (value_read ns false r) refl (block_read n rb) refl (block_read n rd)))
-  stmt_read {ns} n (st.if_goto s x {a} i j r h g) = made ns (Stmt-F.IfGoto a (name_at x)) n (subst (λ w. ReadsStmt ns w (stmt.IfGoto (bare_expr a) (bare_name (name_at x)))) (sym (test_word keyword.If a (goto_marks (name_at x))))
-      (st.if_goto (of_sign sign.CloseParen) (token k.Identifier x.bytes) refl refl (value_read ns false r) refl (goto_read (name_at x))))
-  stmt_read {ns} n (st.goes x g) = made ns (Stmt-F.Goto (name_at x)) n (st.goes (token k.Identifier x.bytes) (goto_read (name_at x)))
-  stmt_read {ns} n (st.labels {n = x} i j h) = made ns (Stmt-F.Label (name_at x)) n (st.labels {n = token k.Identifier x.bytes} refl refl refl)
-  stmt_read {ns} n (st.switches s l d c q x {a} {cs} i j r h m rs y z g e) = made ns (Stmt-F.Switch a cs (name_at x)) n (subst (λ w. ReadsStmt ns w (stmt.Switch (bare_expr a) (map bare_case cs) (bare_name (name_at x)))) (sym (switch_word a n (cases_marks n cs) (goto_marks (name_at x))))
-      (st.switches (of_sign sign.CloseParen) (of_sign sign.OpenBrace) (of_word keyword.Default) (of_sign sign.Colon) (of_sign sign.CloseBrace) (token k.Identifier x.bytes) refl refl (value_read ns false r) refl refl (cases_read n rs) refl refl (goto_read (name_at x)) refl))
-  stmt_read {ns} n (st.returns {t} i j) = made ns (Stmt-F.Return (at t) None) n (st.returns refl refl)
-  stmt_read {ns} n (st.returns_value {t} e {a} i r j) = made ns (Stmt-F.Return (at t) (Some a)) n (subst (λ w. ReadsStmt ns (of_word keyword.Return ∷ w) (stmt.Return nowhere (Some (bare_expr a)))) (sym (word_append (value_marks a) (ASign sign.Semicolon ∷ [])))
-      (st.returns_value (of_sign sign.Semicolon) refl (value_read ns false r) refl))
-  stmt_read {ns} n (st.blocks {b} r) = made ns (Stmt-F.Block b) n (st.blocks (block_read n r))
+  pub stmt_read : (style : Brackets) → {ns : Names} {w : Word} {s : Stmt} (n : ℕ) → ReadsStmt ns w s → ReadsStmt ns (word (stmt_marks style s n)) (bare_of_stmt s)
+  stmt_read style {ns} n (st.assigns t e {a} {b} p i r j) = made style ns (Stmt-F.Assign a b) n (subst (λ w. ReadsStmt ns w (stmt.Assign (bare_expr a) (bare_expr b))) (sym (assign_word style a (value_marks style b)))
+      (st.assigns (of_sign sign.Assign) (of_sign sign.Semicolon) (place_read style p) refl (value_read style ns false r) refl))
+  stmt_read style {ns} n (st.calls e {c} r i) = made style ns (Stmt-F.Call c) n (subst (λ w. ReadsStmt ns w (stmt.Call (bare_call c))) (sym (word_append (call_marks style c) (ASign sign.Semicolon ∷ []))) (st.calls (of_sign sign.Semicolon) (call_read style r) refl))
+  stmt_read style {ns} n (st.stores t e {a} {c} p i r j) = made style ns (Stmt-F.Store a c) n (subst (λ w. ReadsStmt ns w (stmt.Store (bare_expr a) (bare_call c))) (sym (assign_word style a (call_marks style c)))
+      (st.stores (of_sign sign.Assign) (of_sign sign.Semicolon) (place_read style p) refl (call_read style r) refl))
+  stmt_read style {ns} n (st.if_block s {a} {b} i j r h rb) = made style ns (Stmt-F.If a b None) n (subst (λ w. ReadsStmt ns w (stmt.If (bare_expr a) (bare_block b) None)) (sym (if_word style a (block_marks style b n)))
+      (st.if_block (of_sign sign.CloseParen) refl refl (value_read style ns false r) refl (block_read style n rb)))
+  stmt_read style {ns} n (st.if_else s l {a} {b} {d} i j r h rb m rd) = made style ns (Stmt-F.If a b (Some d)) n (subst (λ w. ReadsStmt ns w (stmt.If (bare_expr a) (bare_block b) (Some (bare_block d)))) (sym (else_word style a (block_marks style b n) (block_marks style d n)))
+      (st.if_else (of_sign sign.CloseParen) (of_word keyword.Else) refl refl (value_read style ns false r) refl (block_read style n rb) refl (block_read style n rd)))
+  stmt_read style {ns} n (st.if_goto s x {a} i j r h g) = made style ns (Stmt-F.IfGoto a (name_at x)) n (subst (λ w. ReadsStmt ns w (stmt.IfGoto (bare_expr a) (bare_name (name_at x)))) (sym (test_word style keyword.If a (goto_marks (name_at x))))
+      (st.if_goto (of_sign sign.CloseParen) (token k.Identifier x.bytes) refl refl (value_read style ns false r) refl (goto_read (name_at x))))
+  stmt_read style {ns} n (st.goes x g) = made style ns (Stmt-F.Goto (name_at x)) n (st.goes (token k.Identifier x.bytes) (goto_read (name_at x)))
+  stmt_read style {ns} n (st.labels {n = x} i j h) = made style ns (Stmt-F.Label (name_at x)) n (st.labels {n = token k.Identifier x.bytes} refl refl refl)
+  stmt_read style {ns} n (st.switches s l d c q x {a} {cs} i j r h m rs y z g e) = made style ns (Stmt-F.Switch a cs (name_at x)) n (subst (λ w. ReadsStmt ns w (stmt.Switch (bare_expr a) (map bare_case cs) (bare_name (name_at x)))) (sym (switch_word style a n (cases_marks n cs) (goto_marks (name_at x))))
+      (st.switches (of_sign sign.CloseParen) (of_sign sign.OpenBrace) (of_word keyword.Default) (of_sign sign.Colon) (of_sign sign.CloseBrace) (token k.Identifier x.bytes) refl refl (value_read style ns false r) refl refl (cases_read n rs) refl refl (goto_read (name_at x)) refl))
+  stmt_read style {ns} n (st.returns {t} i j) = made style ns (Stmt-F.Return (at t) None) n (st.returns refl refl)
+  stmt_read style {ns} n (st.returns_value {t} e {a} i r j) = made style ns (Stmt-F.Return (at t) (Some a)) n (subst (λ w. ReadsStmt ns (of_word keyword.Return ∷ w) (stmt.Return nowhere (Some (bare_expr a)))) (sym (word_append (value_marks style a) (ASign sign.Semicolon ∷ [])))
+      (st.returns_value (of_sign sign.Semicolon) refl (value_read style ns false r) refl))
+  stmt_read style {ns} n (st.blocks {b} r) = made style ns (Stmt-F.Block b) n (st.blocks (block_read style n r))
 
-  stmts_read : {ns : Names} {w : Word} {ss : List Stmt} (n : ℕ) → ReadsStmts ns w ss → ReadsStmts ns (word (lines n (map stmt_marks ss))) (map bare_of_stmt ss)
-  stmts_read n st.no_stmt = st.no_stmt
-  stmts_read {ns} n (st.more_stmts {s} {ss} r rest) = subst (λ w. ReadsStmts ns w (bare_of_stmt s ∷ map bare_of_stmt ss)) (sym (word_append (stmt_marks s n) (lines n (map stmt_marks ss)))) (st.more_stmts (stmt_read n r) (stmts_read n rest))
+  stmts_read : (style : Brackets) → {ns : Names} {w : Word} {ss : List Stmt} (n : ℕ) → ReadsStmts ns w ss → ReadsStmts ns (word (lines n (map (stmt_marks style) ss))) (map bare_of_stmt ss)
+  stmts_read style n st.no_stmt = st.no_stmt
+  stmts_read style {ns} n (st.more_stmts {s} {ss} r rest) = subst (λ w. ReadsStmts ns w (bare_of_stmt s ∷ map bare_of_stmt ss)) (sym (word_append (stmt_marks style s n) (lines n (map (stmt_marks style) ss)))) (st.more_stmts (stmt_read style n r) (stmts_read style n rest))
 
-  pub block_read : {ns : Names} {w : Word} {b : Block} (n : ℕ) → ReadsBlock ns w b → ReadsBlock ns (word (block_marks b n)) (bare_block b)
-  block_read {ns} n (st.block_is {t} s {ls} {ss} i rl rs j) =
-      subst (λ (m : Indented). ReadsBlock ns (word (m n)) (bare_block (block ls ss (join (at t) (at s))))) (sym (block_written ls ss (join (at t) (at s))))
-      (subst (ReadsBlock ns (word (print_block (record { locals = ls; body = map stmt_marks ss; span = join (at t) (at s) }) n))) (sym (block_bare ls ss (join (at t) (at s))))
-      (subst (λ w. ReadsBlock ns w (block (map bare_local ls) (map bare_of_stmt ss) nowhere)) (sym (block_word n (locals_marks (deeper n) ls) (lines (deeper n) (map stmt_marks ss))))
-      (st.block_is (of_sign sign.CloseBrace) refl (locals_read (deeper n) rl) (subst (λ m. ReadsStmts m (word (lines (deeper n) (map stmt_marks ss))) (map bare_of_stmt ss)) (sym (same_scope ns ls)) (stmts_read (deeper n) rs)) refl)))
+  pub block_read : (style : Brackets) → {ns : Names} {w : Word} {b : Block} (n : ℕ) → ReadsBlock ns w b → ReadsBlock ns (word (block_marks style b n)) (bare_block b)
+  block_read style {ns} n (st.block_is {t} s {ls} {ss} i rl rs j) =
+      subst (λ (m : Indented). ReadsBlock ns (word (m n)) (bare_block (block ls ss (join (at t) (at s))))) (sym (block_written style ls ss (join (at t) (at s))))
+      (subst (ReadsBlock ns (word (print_block (record { locals = ls; body = map (stmt_marks style) ss; span = join (at t) (at s) }) n))) (sym (block_bare ls ss (join (at t) (at s))))
+      (subst (λ w. ReadsBlock ns w (block (map bare_local ls) (map bare_of_stmt ss) nowhere)) (sym (block_word n (locals_marks (deeper n) ls) (lines (deeper n) (map (stmt_marks style) ss))))
+      (st.block_is (of_sign sign.CloseBrace) refl (locals_read (deeper n) rl) (subst (λ m. ReadsStmts m (word (lines (deeper n) (map (stmt_marks style) ss))) (map bare_of_stmt ss)) (sym (same_scope ns ls)) (stmts_read style (deeper n) rs)) refl)))

@@ -17,10 +17,12 @@ use Rattle.c_tree.specs.declared.unit.Unit.{Unit as CUnit}
 use Rattle.c_lexer.specs.declared.token.BadToken.{BadToken}
 use Rattle.c_lexer.specs.Laws.{Covers}
 use Rattle.c_lexer.specs.Tokens.{Left, Lexeme, Tokens, all_of}
+use Rattle.c_printer.specs.declared.grade.Brackets.{Brackets}
 use Rattle.c_printer.specs.declared.group.Group.{Group}
 use Rattle.c_printer.specs.Alike.{Alike, none, one}
 use Rattle.c_printer.specs.Marks.{Mark, Marks, Name, AKeyword, AConstant, Number, Chars, Character, ASign, Space, Line, word, put_marks}
-use Rattle.c_printer.specs.Printed.{CanBePrinted, IsTextOf}
+use Rattle.c_tree.specs.Answers.{CReads}
+use Rattle.c_printer.specs.Printed.{IsTextOf}
 use Rattle.c_printer.proofs.Inner.{IsInner, AreInner, IsFile, IsWritableItem, AreWritableItems}
 use Rattle.c_printer.specs.Laws.{TokensAreRead}
 use Rattle.c_printer.specs.Put.{AreBytes}
@@ -30,6 +32,7 @@ use Rattle.c_printer.specs.Writable.{IsWritable, AreWritable, lexemes}
 use Rattle.c_printer.proofs.CleanUnits.{sound_alike}
 use Rattle.c_printer.proofs.GivenItems.{items_inner}
 use Rattle.c_printer.proofs.TokensOfBytes.{bytes_given}
+use Rattle.c_printer.proofs.Nesting.{opens, shallow_append}
 use Rattle.c_printer.proofs.TypeReading.{word_append}
 use Rattle.c_printer.proofs.ItemReading.{is_code, item_here, item_scope_bare, include_bare}
 use Rattle.c_printer.proofs.WordLemmas.{flag, inner_words, inner_alike, begins, include_words, AllFileBytes, file_bytes, byte_small}
@@ -44,18 +47,18 @@ between_line o p t f ms = go (is_close o p)
     go false = refl
 
 -- what is written behind an item
-abbrev rest_marks : Group → List Item → Marks
-rest_marks g is = items_marks (Some g) is ++ Line 0 ∷ []
+abbrev rest_marks : (style : Brackets) → Group → List Item → Marks
+rest_marks style g is = items_marks style (Some g) is ++ Line 0 ∷ []
 
-parted : (g : Group) (i : Item) (is : List Item) → rest_marks g (i ∷ is) ≡ between_items (Some g) (group_of i) ++ (item_marks i ++ rest_marks (group_of i) is)
-parted g i is = append_assoc (between_items (Some g) (group_of i) ++ item_marks i) (items_marks (Some (group_of i)) is) (Line 0 ∷ []) ∙ append_assoc (between_items (Some g) (group_of i)) (item_marks i) (rest_marks (group_of i) is)
+parted : (style : Brackets) → (g : Group) (i : Item) (is : List Item) → rest_marks style g (i ∷ is) ≡ between_items (Some g) (group_of i) ++ (item_marks style i ++ rest_marks style (group_of i) is)
+parted style g i is = append_assoc (between_items (Some g) (group_of i) ++ item_marks style i) (items_marks style (Some (group_of i)) is) (Line 0 ∷ []) ∙ append_assoc (between_items (Some g) (group_of i)) (item_marks style i) (rest_marks style (group_of i) is)
 
-rest_lexemes : (g : Group) (i : Item) (is : List Item) (t : Text) (f : Bool) → lexemes t f (rest_marks g (i ∷ is)) ≡ lexemes (put_marks t (between_items (Some g) (group_of i))) true (item_marks i ++ rest_marks (group_of i) is)
-rest_lexemes g i is t f = ap (lexemes t f) (parted g i is) ∙ between_line g (group_of i) t f (item_marks i ++ rest_marks (group_of i) is)
+rest_lexemes : (style : Brackets) → (g : Group) (i : Item) (is : List Item) (t : Text) (f : Bool) → lexemes t f (rest_marks style g (i ∷ is)) ≡ lexemes (put_marks t (between_items (Some g) (group_of i))) true (item_marks style i ++ rest_marks style (group_of i) is)
+rest_lexemes style g i is t f = ap (lexemes t f) (parted style g i is) ∙ between_line g (group_of i) t f (item_marks style i ++ rest_marks style (group_of i) is)
 
-rest_begins : (g : Group) (is : List Item) (t : Text) (f : Bool) → BeginsLine (words_behind Other (lexemes t f (rest_marks g is))) ≡ true
-rest_begins g [] t f = refl
-rest_begins g (i ∷ is) t f = ap (λ ls. BeginsLine (words_behind Other ls)) (rest_lexemes g i is t f) ∙ begins (put_marks t (between_items (Some g) (group_of i))) (item_marks i ++ rest_marks (group_of i) is)
+rest_begins : (style : Brackets) → (g : Group) (is : List Item) (t : Text) (f : Bool) → BeginsLine (words_behind Other (lexemes t f (rest_marks style g is))) ≡ true
+rest_begins style g [] t f = refl
+rest_begins style g (i ∷ is) t f = ap (λ ls. BeginsLine (words_behind Other ls)) (rest_lexemes style g i is t f) ∙ begins (put_marks t (between_items (Some g) (group_of i))) (item_marks style i ++ rest_marks style (group_of i) is)
 
 -- 2. Items
 
@@ -66,67 +69,53 @@ pub record Whole (ns : Names) (w : Word) (is : List Item) : Type 0 where
   pub same : map bare_item tree ≡ map bare_item is
 
 -- the words of an item and of what stands behind it
-abbrev item_words : Text → Item → Marks → Word
-item_words t i ms = words_behind Other (lexemes t true (item_marks i ++ ms))
+abbrev item_words : (style : Brackets) → Text → Item → Marks → Word
+item_words style t i ms = words_behind Other (lexemes t true (item_marks style i ++ ms))
 
-code_step : (ns : Names) (t : Text) (i : Item) (ms : Marks) (is : List Item) {w : Word} → ReadsItem ns w i → is_code i ≡ true → AreInner (item_marks i) → ((f : Bool) → Whole (with_item ns i) (words_behind Other (lexemes (put_marks t (item_marks i)) f ms)) is) → Whole ns (item_words t i ms) (i ∷ is)
-code_step ns t i ms is r h inner more =
-    let m = item_here r h (inner_alike t true (item_marks i) inner) in
-    let q = more (flag true (item_marks i)) in
-    subst (λ w. Whole ns w (i ∷ is)) (sym (inner_words t true (item_marks i) inner ms))
+code_step : (style : Brackets) → (ns : Names) (t : Text) (i : Item) (ms : Marks) (is : List Item) {w : Word} → ReadsItem ns w i → is_code i ≡ true → AreInner (item_marks style i) → ((f : Bool) → Whole (with_item ns i) (words_behind Other (lexemes (put_marks t (item_marks style i)) f ms)) is) → Whole ns (item_words style t i ms) (i ∷ is)
+code_step style ns t i ms is r h inner more =
+    let m = item_here style r h (inner_alike t true (item_marks style i) inner) in
+    let q = more (flag true (item_marks style i)) in
+    subst (λ w. Whole ns w (i ∷ is)) (sym (inner_words t true (item_marks style i) inner ms))
     (record {
       tree = m.tree ∷ q.tree;
-      reads = more_items m.reads (ap (λ b. not b || BeginsLine (words_behind Other (lexemes (put_marks t (item_marks i)) (flag true (item_marks i)) ms))) (sym (include_bare m.tree) ∙ ap is_include m.same ∙ include_bare i)
-          ∙ ap (λ b. b || BeginsLine (words_behind Other (lexemes (put_marks t (item_marks i)) (flag true (item_marks i)) ms))) h)
-          (subst (λ s. ReadsItems s (words_behind Other (lexemes (put_marks t (item_marks i)) (flag true (item_marks i)) ms)) q.tree) (sym (sym (item_scope_bare ns m.tree) ∙ ap (with_item ns) m.same ∙ item_scope_bare ns i)) q.reads);
+      reads = more_items m.reads (ap (λ b. not b || BeginsLine (words_behind Other (lexemes (put_marks t (item_marks style i)) (flag true (item_marks style i)) ms))) (sym (include_bare m.tree) ∙ ap is_include m.same ∙ include_bare i)
+          ∙ ap (λ b. b || BeginsLine (words_behind Other (lexemes (put_marks t (item_marks style i)) (flag true (item_marks style i)) ms))) h)
+          (subst (λ s. ReadsItems s (words_behind Other (lexemes (put_marks t (item_marks style i)) (flag true (item_marks style i)) ms)) q.tree) (sym (sym (item_scope_bare ns m.tree) ∙ ap (with_item ns) m.same ∙ item_scope_bare ns i)) q.reads);
       same = λ k. m.same k ∷ q.same k;
     })
 
-step : (ns : Names) (t : Text) (i : Item) (ms : Marks) (is : List Item) {w : Word} → ReadsItem ns w i → IsWritableItem i → ((s : Text) (f : Bool) → BeginsLine (words_behind Other (lexemes s f ms)) ≡ true)
-    → ((f : Bool) → Whole (with_item ns i) (words_behind Other (lexemes (put_marks t (item_marks i)) f ms)) is) → Whole ns (item_words t i ms) (i ∷ is)
-step ns t (item.Include f) ms is r h line more =
+step : (style : Brackets) → (ns : Names) (t : Text) (i : Item) (ms : Marks) (is : List Item) {w : Word} → ReadsItem ns w i → IsWritableItem style i → ((s : Text) (f : Bool) → BeginsLine (words_behind Other (lexemes s f ms)) ≡ true)
+    → ((f : Bool) → Whole (with_item ns i) (words_behind Other (lexemes (put_marks t (item_marks style i)) f ms)) is) → Whole ns (item_words style t i ms) (i ∷ is)
+step style ns t (item.Include f) ms is r h line more =
     let m = include_words t f h ms in let q = more false in
     subst (λ w. Whole ns w (item.Include f ∷ is)) (sym m.words)
     (record { tree = item.Include f ∷ q.tree; reads = more_items (it.includes m.is_hash m.first m.is_include m.behind m.is_file) (line (put_marks t (include_marks f)) false) q.reads; same = λ k. item.Include f ∷ q.same k })
-step ns t (item.StructType x) ms is r h line more = code_step ns t (item.StructType x) ms is r refl h more
-step ns t (item.Struct x) ms is r h line more = code_step ns t (item.Struct x) ms is r refl h more
-step ns t (item.Enumeration x) ms is r h line more = code_step ns t (item.Enumeration x) ms is r refl h more
-step ns t (item.FunctionType x) ms is r h line more = code_step ns t (item.FunctionType x) ms is r refl h more
-step ns t (item.Prototype x) ms is r h line more = code_step ns t (item.Prototype x) ms is r refl h more
-step ns t (item.Variable x) ms is r h line more = code_step ns t (item.Variable x) ms is r refl h more
-step ns t (item.InterfaceTable x) ms is r h line more = code_step ns t (item.InterfaceTable x) ms is r refl h more
-step ns t (item.Function x) ms is r h line more = code_step ns t (item.Function x) ms is r refl h more
+step style ns t (item.StructType x) ms is r h line more = code_step style ns t (item.StructType x) ms is r refl h more
+step style ns t (item.Struct x) ms is r h line more = code_step style ns t (item.Struct x) ms is r refl h more
+step style ns t (item.Enumeration x) ms is r h line more = code_step style ns t (item.Enumeration x) ms is r refl h more
+step style ns t (item.FunctionType x) ms is r h line more = code_step style ns t (item.FunctionType x) ms is r refl h more
+step style ns t (item.Prototype x) ms is r h line more = code_step style ns t (item.Prototype x) ms is r refl h more
+step style ns t (item.Variable x) ms is r h line more = code_step style ns t (item.Variable x) ms is r refl h more
+step style ns t (item.InterfaceTable x) ms is r h line more = code_step style ns t (item.InterfaceTable x) ms is r refl h more
+step style ns t (item.Function x) ms is r h line more = code_step style ns t (item.Function x) ms is r refl h more
 
-items_read : (g : Group) (is : List Item) (t : Text) (f : Bool) (ns : Names) {w : Word} → ReadsItems ns w is → AreWritableItems is → Whole ns (words_behind Other (lexemes t f (rest_marks g is))) is
-items_read g [] t f ns no_item h = record { tree = []; reads = no_item; same = refl }
-items_read g (i ∷ is) t f ns (more_items r e rest) h = subst (λ ls. Whole ns (words_behind Other ls) (i ∷ is)) (sym (rest_lexemes g i is t f))
-    (step ns (put_marks t (between_items (Some g) (group_of i))) i (rest_marks (group_of i) is) is r h.0 (rest_begins (group_of i) is)
-    (λ b. items_read (group_of i) is (put_marks (put_marks t (between_items (Some g) (group_of i))) (item_marks i)) b (with_item ns i) rest h.1))
+items_read : (style : Brackets) → (g : Group) (is : List Item) (t : Text) (f : Bool) (ns : Names) {w : Word} → ReadsItems ns w is → AreWritableItems style is → Whole ns (words_behind Other (lexemes t f (rest_marks style g is))) is
+items_read style g [] t f ns no_item h = record { tree = []; reads = no_item; same = refl }
+items_read style g (i ∷ is) t f ns (more_items r e rest) h = subst (λ ls. Whole ns (words_behind Other ls) (i ∷ is)) (sym (rest_lexemes style g i is t f))
+    (step style ns (put_marks t (between_items (Some g) (group_of i))) i (rest_marks style (group_of i) is) is r h.0 (rest_begins style (group_of i) is)
+    (λ b. items_read style (group_of i) is (put_marks (put_marks t (between_items (Some g) (group_of i))) (item_marks style i)) b (with_item ns i) rest h.1))
 
 -- the first item stands at the beginning of the text
-first_lexemes : (i : Item) (is : List Item) → items_marks None (i ∷ is) ++ Line 0 ∷ [] ≡ item_marks i ++ rest_marks (group_of i) is
-first_lexemes i is = append_assoc (item_marks i) (items_marks (Some (group_of i)) is) (Line 0 ∷ [])
+first_lexemes : (style : Brackets) → (i : Item) (is : List Item) → items_marks style None (i ∷ is) ++ Line 0 ∷ [] ≡ item_marks style i ++ rest_marks style (group_of i) is
+first_lexemes style i is = append_assoc (item_marks style i) (items_marks style (Some (group_of i)) is) (Line 0 ∷ [])
 
-pub all_items_read : (is : List Item) (ns : Names) {w : Word} → ReadsItems ns w is → AreWritableItems is → Whole ns (words (lexemes empty true (items_marks None is ++ Line 0 ∷ []))) is
-all_items_read [] ns no_item h = record { tree = []; reads = no_item; same = refl }
-all_items_read (i ∷ is) ns (more_items r e rest) h = subst (λ ms. Whole ns (words (lexemes empty true ms)) (i ∷ is)) (sym (first_lexemes i is))
-    (step ns empty i (rest_marks (group_of i) is) is r h.0 (rest_begins (group_of i) is) (λ b. items_read (group_of i) is (put_marks empty (item_marks i)) b (with_item ns i) rest h.1))
+pub all_items_read : (style : Brackets) → (is : List Item) (ns : Names) {w : Word} → ReadsItems ns w is → AreWritableItems style is → Whole ns (words (lexemes empty true (items_marks style None is ++ Line 0 ∷ []))) is
+all_items_read style [] ns no_item h = record { tree = []; reads = no_item; same = refl }
+all_items_read style (i ∷ is) ns (more_items r e rest) h = subst (λ ms. Whole ns (words (lexemes empty true ms)) (i ∷ is)) (sym (first_lexemes style i is))
+    (step style ns empty i (rest_marks style (group_of i) is) is r h.0 (rest_begins style (group_of i) is) (λ b. items_read style (group_of i) is (put_marks empty (item_marks style i)) b (with_item ns i) rest h.1))
 
 -- 3. Brackets
-
--- what is open behind tokens
-opens : Open → Word → Open
-opens o [] = o
-opens o (t ∷ w) = opens (with_terminal o t.terminal) w
-
-and_assoc : (a b c : Bool) → (a && (b && c)) ≡ ((a && b) && c)
-and_assoc true b c = refl
-and_assoc false b c = refl
-
-shallow_append : (o : Open) (u v : Word) → is_shallow o (u ++ v) ≡ (is_shallow o u && is_shallow (opens o u) v)
-unfolding opens
-shallow_append o [] v = refl
-shallow_append o (t ∷ u) v = ap (λ b. nat_le (length (with_terminal o t.terminal)) 64 && b) (shallow_append (with_terminal o t.terminal) u v) ∙ and_assoc (nat_le (length (with_terminal o t.terminal)) 64) (is_shallow (with_terminal o t.terminal) u) (is_shallow (opens (with_terminal o t.terminal) u) v)
 
 alike_shallow : (o : Open) {u v : Word} → Alike u v → (is_shallow o v ≡ is_shallow o u) × (opens o v ≡ opens o u)
 unfolding opens
@@ -159,29 +148,29 @@ include_nests o include.String ms h = times_true 6 (nat_le (length o) 64) (is_sh
 include_nests o include.Stdlib ms h = times_true 6 (nat_le (length o) 64) (is_shallow o (word ms)) h
 include_nests o (include.Own x) ms h = times_true 2 (nat_le (length o) 64) (is_shallow o (word ms)) h
 
-code_nests : (t : Text) (i : Item) (ms : Marks) → AreInner (item_marks i) → ((f : Bool) (o : Open) → is_shallow o (word ms) ≡ true → is_shallow o (words_behind Other (lexemes (put_marks t (item_marks i)) f ms)) ≡ true)
-    → (o : Open) → is_shallow o (word (item_marks i ++ ms)) ≡ true → is_shallow o (item_words t i ms) ≡ true
-code_nests t i ms inner more o h =
-    let a = alike_shallow o (inner_alike t true (item_marks i) inner) in
-    let p = and_parts (is_shallow o (word (item_marks i))) (is_shallow (opens o (word (item_marks i))) (word ms)) (sym (shallow_append o (word (item_marks i)) (word ms)) ∙ ap (is_shallow o) (sym (word_append (item_marks i) ms)) ∙ h) in
-    ap (is_shallow o) (inner_words t true (item_marks i) inner ms)
-    ∙ shallow_append o (map plain (lexemes t true (item_marks i))) (words_behind Other (lexemes (put_marks t (item_marks i)) (flag true (item_marks i)) ms))
-    ∙ ap₂ (λ x y. x && is_shallow y (words_behind Other (lexemes (put_marks t (item_marks i)) (flag true (item_marks i)) ms))) (a.0 ∙ p.0) a.1
-    ∙ more (flag true (item_marks i)) (opens o (word (item_marks i))) p.1
+code_nests : (style : Brackets) → (t : Text) (i : Item) (ms : Marks) → AreInner (item_marks style i) → ((f : Bool) (o : Open) → is_shallow o (word ms) ≡ true → is_shallow o (words_behind Other (lexemes (put_marks t (item_marks style i)) f ms)) ≡ true)
+    → (o : Open) → is_shallow o (word (item_marks style i ++ ms)) ≡ true → is_shallow o (item_words style t i ms) ≡ true
+code_nests style t i ms inner more o h =
+    let a = alike_shallow o (inner_alike t true (item_marks style i) inner) in
+    let p = and_parts (is_shallow o (word (item_marks style i))) (is_shallow (opens o (word (item_marks style i))) (word ms)) (sym (shallow_append o (word (item_marks style i)) (word ms)) ∙ ap (is_shallow o) (sym (word_append (item_marks style i) ms)) ∙ h) in
+    ap (is_shallow o) (inner_words t true (item_marks style i) inner ms)
+    ∙ shallow_append o (map plain (lexemes t true (item_marks style i))) (words_behind Other (lexemes (put_marks t (item_marks style i)) (flag true (item_marks style i)) ms))
+    ∙ ap₂ (λ x y. x && is_shallow y (words_behind Other (lexemes (put_marks t (item_marks style i)) (flag true (item_marks style i)) ms))) (a.0 ∙ p.0) a.1
+    ∙ more (flag true (item_marks style i)) (opens o (word (item_marks style i))) p.1
 
-item_nests : (t : Text) (i : Item) (ms : Marks) → IsWritableItem i → ((f : Bool) (o : Open) → is_shallow o (word ms) ≡ true → is_shallow o (words_behind Other (lexemes (put_marks t (item_marks i)) f ms)) ≡ true)
-    → (o : Open) → is_shallow o (word (item_marks i ++ ms)) ≡ true → is_shallow o (item_words t i ms) ≡ true
-item_nests t (item.Include f) ms h more o e =
+item_nests : (style : Brackets) → (t : Text) (i : Item) (ms : Marks) → IsWritableItem style i → ((f : Bool) (o : Open) → is_shallow o (word ms) ≡ true → is_shallow o (words_behind Other (lexemes (put_marks t (item_marks style i)) f ms)) ≡ true)
+    → (o : Open) → is_shallow o (word (item_marks style i ++ ms)) ≡ true → is_shallow o (item_words style t i ms) ≡ true
+item_nests style t (item.Include f) ms h more o e =
     let m = include_words t f h ms in let p = include_nests o f ms e in
     ap (is_shallow o) m.words ∙ three_quiet o m.hash m.word m.file (words_behind Other (lexemes (put_marks t (include_marks f)) false ms)) (ap (with_terminal o) m.is_hash) (ap (with_terminal o) m.is_include.0) (ap (with_terminal o) m.is_file) p.0 (more false o p.1)
-item_nests t (item.StructType x) ms h more o e = code_nests t (item.StructType x) ms h more o e
-item_nests t (item.Struct x) ms h more o e = code_nests t (item.Struct x) ms h more o e
-item_nests t (item.Enumeration x) ms h more o e = code_nests t (item.Enumeration x) ms h more o e
-item_nests t (item.FunctionType x) ms h more o e = code_nests t (item.FunctionType x) ms h more o e
-item_nests t (item.Prototype x) ms h more o e = code_nests t (item.Prototype x) ms h more o e
-item_nests t (item.Variable x) ms h more o e = code_nests t (item.Variable x) ms h more o e
-item_nests t (item.InterfaceTable x) ms h more o e = code_nests t (item.InterfaceTable x) ms h more o e
-item_nests t (item.Function x) ms h more o e = code_nests t (item.Function x) ms h more o e
+item_nests style t (item.StructType x) ms h more o e = code_nests style t (item.StructType x) ms h more o e
+item_nests style t (item.Struct x) ms h more o e = code_nests style t (item.Struct x) ms h more o e
+item_nests style t (item.Enumeration x) ms h more o e = code_nests style t (item.Enumeration x) ms h more o e
+item_nests style t (item.FunctionType x) ms h more o e = code_nests style t (item.FunctionType x) ms h more o e
+item_nests style t (item.Prototype x) ms h more o e = code_nests style t (item.Prototype x) ms h more o e
+item_nests style t (item.Variable x) ms h more o e = code_nests style t (item.Variable x) ms h more o e
+item_nests style t (item.InterfaceTable x) ms h more o e = code_nests style t (item.InterfaceTable x) ms h more o e
+item_nests style t (item.Function x) ms h more o e = code_nests style t (item.Function x) ms h more o e
 
 between_word : (g p : Group) (ms : Marks) → word (between_items (Some g) p ++ ms) ≡ word ms
 between_word g p ms = go (is_close g p)
@@ -190,16 +179,16 @@ between_word g p ms = go (is_close g p)
     go true = refl
     go false = refl
 
-items_nest : (g : Group) (is : List Item) (t : Text) (f : Bool) → AreWritableItems is → (o : Open) → is_shallow o (word (rest_marks g is)) ≡ true → is_shallow o (words_behind Other (lexemes t f (rest_marks g is))) ≡ true
-items_nest g [] t f h o e = refl
-items_nest g (i ∷ is) t f h o e = ap (λ ls. is_shallow o (words_behind Other ls)) (rest_lexemes g i is t f)
-    ∙ item_nests (put_marks t (between_items (Some g) (group_of i))) i (rest_marks (group_of i) is) h.0 (λ b. items_nest (group_of i) is (put_marks (put_marks t (between_items (Some g) (group_of i))) (item_marks i)) b h.1) o
-    (sym (ap (is_shallow o) (ap word (parted g i is) ∙ between_word g (group_of i) (item_marks i ++ rest_marks (group_of i) is))) ∙ e)
+items_nest : (style : Brackets) → (g : Group) (is : List Item) (t : Text) (f : Bool) → AreWritableItems style is → (o : Open) → is_shallow o (word (rest_marks style g is)) ≡ true → is_shallow o (words_behind Other (lexemes t f (rest_marks style g is))) ≡ true
+items_nest style g [] t f h o e = refl
+items_nest style g (i ∷ is) t f h o e = ap (λ ls. is_shallow o (words_behind Other ls)) (rest_lexemes style g i is t f)
+    ∙ item_nests style (put_marks t (between_items (Some g) (group_of i))) i (rest_marks style (group_of i) is) h.0 (λ b. items_nest style (group_of i) is (put_marks (put_marks t (between_items (Some g) (group_of i))) (item_marks style i)) b h.1) o
+    (sym (ap (is_shallow o) (ap word (parted style g i is) ∙ between_word g (group_of i) (item_marks style i ++ rest_marks style (group_of i) is))) ∙ e)
 
-pub all_items_nest : (is : List Item) → AreWritableItems is → (o : Open) → is_shallow o (word (items_marks None is ++ Line 0 ∷ [])) ≡ true → is_shallow o (words (lexemes empty true (items_marks None is ++ Line 0 ∷ []))) ≡ true
-all_items_nest [] h o e = refl
-all_items_nest (i ∷ is) h o e = ap (λ ms. is_shallow o (words (lexemes empty true ms))) (first_lexemes i is)
-    ∙ item_nests empty i (rest_marks (group_of i) is) h.0 (λ b. items_nest (group_of i) is (put_marks empty (item_marks i)) b h.1) o (sym (ap (λ ms. is_shallow o (word ms)) (first_lexemes i is)) ∙ e)
+pub all_items_nest : (style : Brackets) → (is : List Item) → AreWritableItems style is → (o : Open) → is_shallow o (word (items_marks style None is ++ Line 0 ∷ [])) ≡ true → is_shallow o (words (lexemes empty true (items_marks style None is ++ Line 0 ∷ []))) ≡ true
+all_items_nest style [] h o e = refl
+all_items_nest style (i ∷ is) h o e = ap (λ ms. is_shallow o (words (lexemes empty true ms))) (first_lexemes style i is)
+    ∙ item_nests style empty i (rest_marks style (group_of i) is) h.0 (λ b. items_nest style (group_of i) is (put_marks empty (item_marks style i)) b h.1) o (sym (ap (λ ms. is_shallow o (word ms)) (first_lexemes style i is)) ∙ e)
 
 -- 4. What can be written
 
@@ -237,16 +226,16 @@ include_writable include.String h = (tt, (include_word, (tt, (tt, ((record { som
 include_writable include.Stdlib h = (tt, (include_word, (tt, (tt, ((record { some = omega arith; letter = refl; all = refl }, refl), (tt, ((record { some = omega arith; letter = refl; all = refl }, refl), (tt, tt))))))))
 include_writable (include.Own x) h = (tt, (include_word, (tt, (bytes_small (x ++ codes ".h") (file_bytes x h), tt))))
 
-item_writable : (i : Item) → IsWritableItem i → AreWritable (item_marks i)
-item_writable (item.Include f) h = include_writable f h
-item_writable (item.StructType x) h = inner_writable (item_marks (item.StructType x)) h
-item_writable (item.Struct x) h = inner_writable (item_marks (item.Struct x)) h
-item_writable (item.Enumeration x) h = inner_writable (item_marks (item.Enumeration x)) h
-item_writable (item.FunctionType x) h = inner_writable (item_marks (item.FunctionType x)) h
-item_writable (item.Prototype x) h = inner_writable (item_marks (item.Prototype x)) h
-item_writable (item.Variable x) h = inner_writable (item_marks (item.Variable x)) h
-item_writable (item.InterfaceTable x) h = inner_writable (item_marks (item.InterfaceTable x)) h
-item_writable (item.Function x) h = inner_writable (item_marks (item.Function x)) h
+item_writable : (style : Brackets) → (i : Item) → IsWritableItem style i → AreWritable (item_marks style i)
+item_writable style (item.Include f) h = include_writable f h
+item_writable style (item.StructType x) h = inner_writable (item_marks style (item.StructType x)) h
+item_writable style (item.Struct x) h = inner_writable (item_marks style (item.Struct x)) h
+item_writable style (item.Enumeration x) h = inner_writable (item_marks style (item.Enumeration x)) h
+item_writable style (item.FunctionType x) h = inner_writable (item_marks style (item.FunctionType x)) h
+item_writable style (item.Prototype x) h = inner_writable (item_marks style (item.Prototype x)) h
+item_writable style (item.Variable x) h = inner_writable (item_marks style (item.Variable x)) h
+item_writable style (item.InterfaceTable x) h = inner_writable (item_marks style (item.InterfaceTable x)) h
+item_writable style (item.Function x) h = inner_writable (item_marks style (item.Function x)) h
 
 between_writable : (o : Option Group) (p : Group) → AreWritable (between_items o p)
 between_writable None p = tt
@@ -256,12 +245,12 @@ between_writable (Some g) p = go (is_close g p)
     go true = (tt, tt)
     go false = (tt, (tt, tt))
 
-pub items_writable : (o : Option Group) (is : List Item) → AreWritableItems is → AreWritable (items_marks o is)
-items_writable o [] h = tt
-items_writable o (i ∷ is) h = writable_append (between_items o (group_of i) ++ item_marks i) (items_marks (Some (group_of i)) is) (writable_append (between_items o (group_of i)) (item_marks i) (between_writable o (group_of i)) (item_writable i h.0)) (items_writable (Some (group_of i)) is h.1)
+pub items_writable : (style : Brackets) → (o : Option Group) (is : List Item) → AreWritableItems style is → AreWritable (items_marks style o is)
+items_writable style o [] h = tt
+items_writable style o (i ∷ is) h = writable_append (between_items o (group_of i) ++ item_marks style i) (items_marks style (Some (group_of i)) is) (writable_append (between_items o (group_of i)) (item_marks style i) (between_writable o (group_of i)) (item_writable style i h.0)) (items_writable style (Some (group_of i)) is h.1)
 
-pub unit_writable : (is : List Item) → AreWritableItems is → AreWritable (items_marks None is ++ Line 0 ∷ [])
-unit_writable is h = writable_append (items_marks None is) (Line 0 ∷ []) (items_writable None is h) (tt, tt)
+pub unit_writable : (style : Brackets) → (is : List Item) → AreWritableItems style is → AreWritable (items_marks style None is ++ Line 0 ∷ [])
+unit_writable style is h = writable_append (items_marks style None is) (Line 0 ∷ []) (items_writable style None is h) (tt, tt)
 
 -- 5. Whole texts
 
@@ -269,20 +258,22 @@ unit_writable is h = writable_append (items_marks None is) (Line 0 ∷ []) (item
 abbrev pub TokensCover : Type 0
 TokensCover = (l : Left) (ts : List Lexeme) (o : Option BadToken) → l.at ≤ length l.bytes → Tokens l ts o → Covers l.at (drop l.at l.bytes) ts o
 
-pub text_read : TokensAreRead → TokensCover → (u : CUnit) (bytes : List ℕ) → bytes ≡ (put_marks empty (unit_marks u)).bytes → CanBePrinted u → IsTextOf u bytes
-text_read lexed covers u bytes e h =
-    let was = h.reads.reads.items in
-    let inner = items_inner was (bytes_given h.bytes h.reads.tokens None (covers (all_of h.bytes) h.reads.tokens None (omega arith) h.reads.lexed) h.are_bytes) in
-    let m = all_items_read u.items library_names was inner in
+-- what is written of a unit that bytes are read as is read, where it does not nest too deep
+pub text_read : (style : Brackets) → TokensAreRead → TokensCover → (u : CUnit) (bytes source : List ℕ) → bytes ≡ (put_marks empty (unit_marks style u)).bytes
+    → is_shallow [] (word (unit_marks style u)) ≡ true → AreBytes source → CReads source u → IsTextOf u bytes
+text_read style lexed covers u bytes source e nests small h =
+    let was = h.reads.items in
+    let inner = items_inner style was (bytes_given source h.tokens None (covers (all_of source) h.tokens None (omega arith) h.lexed) small) in
+    let m = all_items_read style u.items library_names was inner in
     let read : CUnit = record { items = m.tree } in
     let same : bare read ≡ bare u = λ i. record { items = m.same i } in
     record {
       read = read;
       reads = record {
-        tokens = lexemes empty true (unit_marks u);
-        lexed = subst (λ z. Tokens (all_of z) (lexemes empty true (unit_marks u)) None) (sym e) (lexed (unit_marks u) (unit_writable u.items inner));
-        reads = record { items = m.reads; shallow = all_items_nest u.items inner [] h.nests };
-        sound = sound_alike u read was m.reads same h.reads.sound;
+        tokens = lexemes empty true (unit_marks style u);
+        lexed = subst (λ z. Tokens (all_of z) (lexemes empty true (unit_marks style u)) None) (sym e) (lexed (unit_marks style u) (unit_writable style u.items inner));
+        reads = record { items = m.reads; shallow = all_items_nest style u.items inner [] nests };
+        sound = sound_alike u read was m.reads same h.sound;
       };
       same = same;
     }

@@ -31,6 +31,9 @@ use Rattle.c_tree.specs.Types.{ReadsType, is_object}
 use Rattle.c_tree.specs.Values as v
 use Rattle.c_tree.specs.Values.{binary_of, prefix_of, is_place, is_dot_layer, may_precede, may_follow}
 use Rattle.c_tree.specs.Bare.{nowhere, bare_name, bare_type, bare_operator, bare_prefix, bare_shape, bare_suffix, bare_expr}
+use Rattle.c_printer.specs.declared.grade.Brackets.{Brackets}
+use Rattle.c_printer.specs.declared.grade.Brackets.TheVariants.{Clear, Needed}
+use Rattle.c_printer.specs.declared.grade.Grade.{Grade}
 use Rattle.c_printer.specs.declared.grade.Place.{Place}
 use Rattle.c_printer.specs.declared.grade.Place.TheVariants.{Anywhere, Chosen, Operand, BehindPrefix, BeforeSuffix}
 use Rattle.c_printer.specs.Grades.{stands, binds, is_unclear}
@@ -85,61 +88,66 @@ left_true : (a b : Bool) → (a && b) ≡ true → a ≡ true
 left_true true b h = refl
 left_true false b h = h
 
+-- what stands at a place binds tightly enough
+stands_bound : (style : Brackets) (p : Place) (g : Grade) → stands style p g ≡ true → binds p g ≡ true
+stands_bound Clear p g h = left_true (binds p g) (not (is_unclear p g)) h
+stands_bound Needed p g h = h
+
 -- 2. One value
 
-module _ (ns : Names) (constant : Bool) where
+module _ (style : Brackets) (ns : Names) (constant : Bool) where
   -- a value reads, as it is written outside of brackets
   abbrev P : Expr → Type 0
-  P e = g.Own ns constant (printed e).grade (word (printed e).marks) (bare_expr e)
+  P e = g.Own ns constant (printed style e).grade (word (printed style e).marks) (bare_expr e)
 
-  enclosed : (e : Expr) → P e → v.Reads ns constant v.Primary (word (in_brackets (printed e).marks)) (bare_expr e)
+  enclosed : (e : Expr) → P e → v.Reads ns constant v.Primary (word (in_brackets (printed style e).marks)) (bare_expr e)
   enclosed e r =
-      subst (λ x. v.Reads ns constant v.Primary (word (in_brackets (printed e).marks)) x) (whole_bare e)
-      (subst (λ w. v.Reads ns constant v.Primary (token (k.Sign sign.OpenParen) [] ∷ w) (expr (shape_of (bare_expr e)) nowhere)) (sym (word_append (printed e).marks (ASign sign.CloseParen ∷ [])))
-      (v.brackets (token (k.Sign sign.CloseParen) []) refl (g.to_value ns constant (printed e).grade r) refl))
+      subst (λ x. v.Reads ns constant v.Primary (word (in_brackets (printed style e).marks)) x) (whole_bare e)
+      (subst (λ w. v.Reads ns constant v.Primary (token (k.Sign sign.OpenParen) [] ∷ w) (expr (shape_of (bare_expr e)) nowhere)) (sym (word_append (printed style e).marks (ASign sign.CloseParen ∷ [])))
+      (v.brackets (token (k.Sign sign.CloseParen) []) refl (g.to_value ns constant (printed style e).grade r) refl))
 
   from_primary : (p : Place) (w : Word) (e : Expr) → v.Reads ns constant v.Primary w e → g.At ns constant p w e
   from_primary p w e r = g.primary_at ns constant p w e r
 
-  at : (p : Place) (e : Expr) → P e → g.At ns constant p (word (placed p (printed e))) (bare_expr e)
-  at p e r = cond_both (stands p (printed e).grade) (printed e).marks (in_brackets (printed e).marks) (λ ms. g.At ns constant p (word ms) (bare_expr e))
-      (λ h. g.bare_at ns constant p (printed e).grade (word (printed e).marks) (bare_expr e) (left_true (binds p (printed e).grade) (not (is_unclear p (printed e).grade)) h) r)
-      (λ h. from_primary p (word (in_brackets (printed e).marks)) (bare_expr e) (enclosed e r))
+  at : (p : Place) (e : Expr) → P e → g.At ns constant p (word (placed style p (printed style e))) (bare_expr e)
+  at p e r = cond_both (stands style p (printed style e).grade) (printed style e).marks (in_brackets (printed style e).marks) (λ ms. g.At ns constant p (word ms) (bare_expr e))
+      (λ h. g.bare_at ns constant p (printed style e).grade (word (printed style e).marks) (bare_expr e) (stands_bound style p (printed style e).grade h) r)
+      (λ h. from_primary p (word (in_brackets (printed style e).marks)) (bare_expr e) (enclosed e r))
 
   -- a value of one level, by what is written of it
-  made : (q : Printed) (x : Expr) (e : Expr) → printed e ≡ q → bare_expr e ≡ x → g.Own ns constant q.grade (word q.marks) x → P e
+  made : (q : Printed) (x : Expr) (e : Expr) → printed style e ≡ q → bare_expr e ≡ x → g.Own ns constant q.grade (word q.marks) x → P e
   made q x e h b r = subst (λ (y : Printed). g.Own ns constant y.grade (word y.marks) (bare_expr e)) (sym h) (subst (g.Own ns constant q.grade (word q.marks)) (sym b) r)
 
   -- 3. Chains
 
   FirstLevel : Level → List Link → Type 0
   FirstLevel l [] = Unit {0}
-  FirstLevel l (k ∷ ks) = (printed_link k).level ≡ l
+  FirstLevel l (k ∷ ks) = (printed_link style k).level ≡ l
 
   LinksRead : Level → List Link → Type 0
-  LinksRead l ls = FirstLevel l ls × v.Reads ns constant (v.Links l) (word (link_marks (map printed_link ls))) (map bare_of_link ls)
+  LinksRead l ls = FirstLevel l ls × v.Reads ns constant (v.Links l) (word (link_marks (map (printed_link style) ls))) (map bare_of_link ls)
 
   one_link : (o : BinaryOperator) (l : Level) (b : Expr) (ls : List Link) → level_of o ≡ l → P b → LinksRead l ls → LinksRead l (link o b ∷ ls)
   unfolding LinksRead FirstLevel
   one_link o l b ls h pb (first, rest) = (
-    ap (λ (x : PrintedLink). x.level) (link_written o b) ∙ h,
+    ap (λ (x : PrintedLink). x.level) (link_written style o b) ∙ h,
     subst (λ w. v.Reads ns constant (v.Links l) w (bare_of_link (link o b) ∷ map bare_of_link ls)) (sym flat)
-        (subst (λ x. v.Reads ns constant (v.Links l) (token (k.Sign (sign_of o)) [] ∷ word (placed (Operand (level_of o)) (printed b)) ++ word (link_marks (map printed_link ls))) (x ∷ map bare_of_link ls)) (sym (link_bare o b))
-        (v.more_links refl (one_sign o) h (subst (λ x. v.Reads ns constant (v.Operand x) (word (placed (Operand (level_of o)) (printed b))) (bare_expr b)) h (at (Operand (level_of o)) b pb)) rest)),
+        (subst (λ x. v.Reads ns constant (v.Links l) (token (k.Sign (sign_of o)) [] ∷ word (placed style (Operand (level_of o)) (printed style b)) ++ word (link_marks (map (printed_link style) ls))) (x ∷ map bare_of_link ls)) (sym (link_bare o b))
+        (v.more_links refl (one_sign o) h (subst (λ x. v.Reads ns constant (v.Operand x) (word (placed style (Operand (level_of o)) (printed style b))) (bare_expr b)) h (at (Operand (level_of o)) b pb)) rest)),
   )
     where
-      flat : word ((printed_link (link o b)).marks ++ link_marks (map printed_link ls)) ≡ token (k.Sign (sign_of o)) [] ∷ word (placed (Operand (level_of o)) (printed b)) ++ word (link_marks (map printed_link ls))
-      flat = ap (λ (x : PrintedLink). word (x.marks ++ link_marks (map printed_link ls))) (link_written o b)
-          ∙ ap (λ w. token (k.Sign (sign_of o)) [] ∷ w) (word_append (placed (Operand (level_of o)) (printed b)) (link_marks (map printed_link ls)))
+      flat : word ((printed_link style (link o b)).marks ++ link_marks (map (printed_link style) ls)) ≡ token (k.Sign (sign_of o)) [] ∷ word (placed style (Operand (level_of o)) (printed style b)) ++ word (link_marks (map (printed_link style) ls))
+      flat = ap (λ (x : PrintedLink). word (x.marks ++ link_marks (map (printed_link style) ls))) (link_written style o b)
+          ∙ ap (λ w. token (k.Sign (sign_of o)) [] ∷ w) (word_append (placed style (Operand (level_of o)) (printed style b)) (link_marks (map (printed_link style) ls)))
 
   chain_read : (l : Level) (a : Expr) (ls : List Link) → P a → LinksRead l ls → P (chained a ls)
   unfolding LinksRead FirstLevel
   chain_read l a [] pa rs = pa
   chain_read l a (j ∷ ls) pa (first, rest) =
-      made _ _ _ (printed_at (Shape-F.Chain a (j ∷ ls)) _) (bare_at (Shape-F.Chain a (j ∷ ls)) _)
-      (subst (λ x. v.Reads ns constant (v.Chained x) (word (placed (Operand x) (printed a) ++ link_marks (map printed_link (j ∷ ls)))) (expr (shape.Chain (bare_expr a) (map bare_of_link (j ∷ ls))) nowhere)) (sym first)
-      (subst (λ w. v.Reads ns constant (v.Chained l) w (expr (shape.Chain (bare_expr a) (map bare_of_link (j ∷ ls))) nowhere)) (sym (word_append (placed (Operand l) (printed a)) (link_marks (map printed_link (j ∷ ls)))))
-      (subst (λ o. v.Reads ns constant (v.Chained l) (word (placed (Operand l) (printed a)) ++ word (link_marks (map printed_link (j ∷ ls)))) (expr (shape.Chain (bare_expr a) (map bare_of_link (j ∷ ls))) o)) spans
+      made _ _ _ (printed_at style (Shape-F.Chain a (j ∷ ls)) _) (bare_at (Shape-F.Chain a (j ∷ ls)) _)
+      (subst (λ x. v.Reads ns constant (v.Chained x) (word (placed style (Operand x) (printed style a) ++ link_marks (map (printed_link style) (j ∷ ls)))) (expr (shape.Chain (bare_expr a) (map bare_of_link (j ∷ ls))) nowhere)) (sym first)
+      (subst (λ w. v.Reads ns constant (v.Chained l) w (expr (shape.Chain (bare_expr a) (map bare_of_link (j ∷ ls))) nowhere)) (sym (word_append (placed style (Operand l) (printed style a)) (link_marks (map (printed_link style) (j ∷ ls)))))
+      (subst (λ o. v.Reads ns constant (v.Chained l) (word (placed style (Operand l) (printed style a)) ++ word (link_marks (map (printed_link style) (j ∷ ls)))) (expr (shape.Chain (bare_expr a) (map bare_of_link (j ∷ ls))) o)) spans
       (v.chain {a = bare_expr a} {ls = map bare_of_link (j ∷ ls)} (at (Operand l) a pa) rest))))
     where
       spans : join (span_of (bare_expr a)) (last_operand (span_of (bare_expr a)) (map bare_of_link (j ∷ ls))) ≡ nowhere
@@ -148,7 +156,7 @@ module _ (ns : Names) (constant : Bool) where
   -- 4. Prefixes
 
   PrefixesRead : List PrefixOperator → Expr → Type 0
-  PrefixesRead ps a = v.Reads ns constant v.Prefixed (word (prefixes_marks ps ++ placed BehindPrefix (printed a))) (map bare_prefix ps, bare_expr a) × P a
+  PrefixesRead ps a = v.Reads ns constant v.Prefixed (word (prefixes_marks ps ++ placed style BehindPrefix (printed style a))) (map bare_prefix ps, bare_expr a) × P a
 
   no_prefix : (a : Expr) → P a → PrefixesRead [] a
   unfolding PrefixesRead
@@ -168,59 +176,59 @@ module _ (ns : Names) (constant : Bool) where
   unfolding PrefixesRead
   one_prefix s p o ps a h m (r, pa) =
       let (marks, same) = by_sign constant s p h in (
-        subst (λ q. v.Reads ns constant v.Prefixed (word (prefix_marks p ++ prefixes_marks ps ++ placed BehindPrefix (printed a))) (record { prefix = q; span = nowhere } ∷ map bare_prefix ps, bare_expr a)) (sym same)
-            (subst (λ ms. v.Reads ns constant v.Prefixed (word (ms ++ prefixes_marks ps ++ placed BehindPrefix (printed a))) (record { prefix = p; span = nowhere } ∷ map bare_prefix ps, bare_expr a)) (sym marks)
+        subst (λ q. v.Reads ns constant v.Prefixed (word (prefix_marks p ++ prefixes_marks ps ++ placed style BehindPrefix (printed style a))) (record { prefix = q; span = nowhere } ∷ map bare_prefix ps, bare_expr a)) (sym same)
+            (subst (λ ms. v.Reads ns constant v.Prefixed (word (ms ++ prefixes_marks ps ++ placed style BehindPrefix (printed style a))) (record { prefix = p; span = nowhere } ∷ map bare_prefix ps, bare_expr a)) (sym marks)
             (v.more_prefixes refl h r (still_precedes p ps a m))),
         pa,
       )
 
-  one_cast : (c : CType) (o : Span) (ps : List PrefixOperator) (a : Expr) → v.Reads ns constant v.Prefixed (word (in_brackets (type_marks c)) ++ word (prefixes_marks ps ++ placed BehindPrefix (printed a))) (record { prefix = prefix.Cast (bare_type c); span = nowhere } ∷ map bare_prefix ps, bare_expr a)
+  one_cast : (c : CType) (o : Span) (ps : List PrefixOperator) (a : Expr) → v.Reads ns constant v.Prefixed (word (in_brackets (type_marks c)) ++ word (prefixes_marks ps ++ placed style BehindPrefix (printed style a))) (record { prefix = prefix.Cast (bare_type c); span = nowhere } ∷ map bare_prefix ps, bare_expr a)
       → P a → PrefixesRead (record { prefix = prefix.Cast c; span = o } ∷ ps) a
   unfolding PrefixesRead
   one_cast c o ps a r pa = (subst (λ w. v.Reads ns constant v.Prefixed w (record { prefix = prefix.Cast (bare_type c); span = nowhere } ∷ map bare_prefix ps, bare_expr a)) (sym flat) r, pa)
     where
       rest : Marks
-      rest = prefixes_marks ps ++ placed BehindPrefix (printed a)
+      rest = prefixes_marks ps ++ placed style BehindPrefix (printed style a)
 
-      flat : word (prefix_marks (prefix.Cast c) ++ prefixes_marks ps ++ placed BehindPrefix (printed a)) ≡ word (in_brackets (type_marks c)) ++ word (prefixes_marks ps ++ placed BehindPrefix (printed a))
-      flat = ap word (append_assoc (prefix_marks (prefix.Cast c)) (prefixes_marks ps) (placed BehindPrefix (printed a)))
-          ∙ word_append (prefix_marks (prefix.Cast c)) (prefixes_marks ps ++ placed BehindPrefix (printed a))
-          ∙ ap (λ w. w ++ word (prefixes_marks ps ++ placed BehindPrefix (printed a))) (word_append (in_brackets (type_marks c)) (Space ∷ []) ∙ append-nil (word (in_brackets (type_marks c))))
+      flat : word (prefix_marks (prefix.Cast c) ++ prefixes_marks ps ++ placed style BehindPrefix (printed style a)) ≡ word (in_brackets (type_marks c)) ++ word (prefixes_marks ps ++ placed style BehindPrefix (printed style a))
+      flat = ap word (append_assoc (prefix_marks (prefix.Cast c)) (prefixes_marks ps) (placed style BehindPrefix (printed style a)))
+          ∙ word_append (prefix_marks (prefix.Cast c)) (prefixes_marks ps ++ placed style BehindPrefix (printed style a))
+          ∙ ap (λ w. w ++ word (prefixes_marks ps ++ placed style BehindPrefix (printed style a))) (word_append (in_brackets (type_marks c)) (Space ∷ []) ∙ append-nil (word (in_brackets (type_marks c))))
 
   prefixed_read : (ps : List PrefixOperator) (a : Expr) → PrefixesRead ps a → P (prefixed ps a)
   unfolding PrefixesRead
   prefixed_read [] a (r, pa) = pa
   prefixed_read (p ∷ ps) a (r, pa) =
-      made _ _ _ (printed_at (Shape-F.Prefix (p ∷ ps) a) _) (bare_at (Shape-F.Prefix (p ∷ ps) a) _)
-      (subst (λ o. v.Reads ns constant (v.Operand level.Product) (word (prefixes_marks (p ∷ ps) ++ placed BehindPrefix (printed a))) (expr (shape.Prefix (map bare_prefix (p ∷ ps)) (bare_expr a)) o)) (ap (λ x. join nowhere x) (no_span a))
+      made _ _ _ (printed_at style (Shape-F.Prefix (p ∷ ps) a) _) (bare_at (Shape-F.Prefix (p ∷ ps) a) _)
+      (subst (λ o. v.Reads ns constant (v.Operand level.Product) (word (prefixes_marks (p ∷ ps) ++ placed style BehindPrefix (printed style a))) (expr (shape.Prefix (map bare_prefix (p ∷ ps)) (bare_expr a)) o)) (ap (λ x. join nowhere x) (no_span a))
       (v.tightest {ps = map bare_prefix (p ∷ ps)} {a = bare_expr a} r))
 
   -- 5. Suffixes
 
   SuffixesRead : List Suffix → Type 0
-  SuffixesRead xs = v.Reads ns constant v.Suffixes (word (in_row (map suffix_marks xs))) (map bare_of_suffix xs)
+  SuffixesRead xs = v.Reads ns constant v.Suffixes (word (in_row (map (suffix_marks style) xs))) (map bare_of_suffix xs)
 
   one_suffix : (l : Suffix-F Shape Suffix Choice Expr Link) (xs : List Suffix)
-      → v.Reads ns constant v.Suffixes (word (print_suffix (suffix_layer l)) ++ word (in_row (map suffix_marks xs))) (bare_suffix (bare_suffix_layer l) ∷ map bare_of_suffix xs) → SuffixesRead (suffix_at l ∷ xs)
+      → v.Reads ns constant v.Suffixes (word (print_suffix style (suffix_layer style l)) ++ word (in_row (map (suffix_marks style) xs))) (bare_suffix (bare_suffix_layer l) ∷ map bare_of_suffix xs) → SuffixesRead (suffix_at l ∷ xs)
   unfolding SuffixesRead
   one_suffix l xs r =
-      subst (λ x. v.Reads ns constant v.Suffixes (word (in_row (map suffix_marks (suffix_at l ∷ xs)))) (x ∷ map bare_of_suffix xs)) (sym (suffix_bare_at l))
+      subst (λ x. v.Reads ns constant v.Suffixes (word (in_row (map (suffix_marks style) (suffix_at l ∷ xs)))) (x ∷ map bare_of_suffix xs)) (sym (suffix_bare_at l))
       (subst (λ w. v.Reads ns constant v.Suffixes w (bare_suffix (bare_suffix_layer l) ∷ map bare_of_suffix xs)) (sym flat) r)
     where
-      flat : word (suffix_marks (suffix_at l) ++ in_row (map suffix_marks xs)) ≡ word (print_suffix (suffix_layer l)) ++ word (in_row (map suffix_marks xs))
-      flat = word_append (suffix_marks (suffix_at l)) (in_row (map suffix_marks xs)) ∙ ap (λ ms. word ms ++ word (in_row (map suffix_marks xs))) (suffix_written_at l)
+      flat : word (suffix_marks style (suffix_at l) ++ in_row (map (suffix_marks style) xs)) ≡ word (print_suffix style (suffix_layer style l)) ++ word (in_row (map (suffix_marks style) xs))
+      flat = word_append (suffix_marks style (suffix_at l)) (in_row (map (suffix_marks style) xs)) ∙ ap (λ ms. word ms ++ word (in_row (map (suffix_marks style) xs))) (suffix_written_at style l)
 
   indexed : (i : Expr) → P i → (xs : List Suffix) → constant ≡ false → SuffixesRead xs
-      → v.Reads ns constant v.Suffixes (word (print_suffix (suffix_layer (Suffix-F.Index i nowhere))) ++ word (in_row (map suffix_marks xs))) (bare_suffix (bare_suffix_layer (Suffix-F.Index i nowhere)) ∷ map bare_of_suffix xs)
+      → v.Reads ns constant v.Suffixes (word (print_suffix style (suffix_layer style (Suffix-F.Index i nowhere))) ++ word (in_row (map (suffix_marks style) xs))) (bare_suffix (bare_suffix_layer (Suffix-F.Index i nowhere)) ∷ map bare_of_suffix xs)
   unfolding SuffixesRead
   indexed i p xs h r =
       subst (λ w. v.Reads ns constant v.Suffixes w (suffix.Index (bare_expr i) nowhere ∷ map bare_of_suffix xs)) (sym flat)
       (v.index {t = token (k.Sign sign.OpenBracket) []} (token (k.Sign sign.CloseBracket) []) h refl (at Anywhere i p) refl r)
     where
-      flat : word (ASign sign.OpenBracket ∷ placed Anywhere (printed i) ++ ASign sign.CloseBracket ∷ []) ++ word (in_row (map suffix_marks xs))
-          ≡ token (k.Sign sign.OpenBracket) [] ∷ word (placed Anywhere (printed i)) ++ token (k.Sign sign.CloseBracket) [] ∷ word (in_row (map suffix_marks xs))
-      flat = ap (λ w. token (k.Sign sign.OpenBracket) [] ∷ w) (ap (λ w. w ++ word (in_row (map suffix_marks xs))) (word_append (placed Anywhere (printed i)) (ASign sign.CloseBracket ∷ []))
-          ∙ append_assoc (word (placed Anywhere (printed i))) (token (k.Sign sign.CloseBracket) [] ∷ []) (word (in_row (map suffix_marks xs))))
+      flat : word (ASign sign.OpenBracket ∷ placed style Anywhere (printed style i) ++ ASign sign.CloseBracket ∷ []) ++ word (in_row (map (suffix_marks style) xs))
+          ≡ token (k.Sign sign.OpenBracket) [] ∷ word (placed style Anywhere (printed style i)) ++ token (k.Sign sign.CloseBracket) [] ∷ word (in_row (map (suffix_marks style) xs))
+      flat = ap (λ w. token (k.Sign sign.OpenBracket) [] ∷ w) (ap (λ w. w ++ word (in_row (map (suffix_marks style) xs))) (word_append (placed style Anywhere (printed style i)) (ASign sign.CloseBracket ∷ []))
+          ∙ append_assoc (word (placed style Anywhere (printed style i))) (token (k.Sign sign.CloseBracket) [] ∷ []) (word (in_row (map (suffix_marks style) xs))))
 
   still_follows : (a : Expr) (xs : List Suffix) → may_follow a xs ≡ true → may_follow (bare_expr a) (map bare_of_suffix xs) ≡ true
   still_follows a [] h = refl
@@ -230,15 +238,15 @@ module _ (ns : Names) (constant : Bool) where
   unfolding SuffixesRead
   suffixed_read a [] pa r h = pa
   suffixed_read a (x ∷ xs) pa r h =
-      made _ _ _ (printed_at (Shape-F.Postfix a (x ∷ xs)) _) (bare_at (Shape-F.Postfix a (x ∷ xs)) _)
-      (subst (λ w. v.Reads ns constant v.Postfixed w (expr (shape.Postfix (bare_expr a) (map bare_of_suffix (x ∷ xs))) nowhere)) (sym (word_append (placed BeforeSuffix (printed a)) (in_row (map suffix_marks (x ∷ xs)))))
-      (subst (λ o. v.Reads ns constant v.Postfixed (word (placed BeforeSuffix (printed a)) ++ word (in_row (map suffix_marks (x ∷ xs)))) (expr (shape.Postfix (bare_expr a) (map bare_of_suffix (x ∷ xs))) o)) (λ i. join (no_span a i) (last_place x xs i))
+      made _ _ _ (printed_at style (Shape-F.Postfix a (x ∷ xs)) _) (bare_at (Shape-F.Postfix a (x ∷ xs)) _)
+      (subst (λ w. v.Reads ns constant v.Postfixed w (expr (shape.Postfix (bare_expr a) (map bare_of_suffix (x ∷ xs))) nowhere)) (sym (word_append (placed style BeforeSuffix (printed style a)) (in_row (map (suffix_marks style) (x ∷ xs)))))
+      (subst (λ o. v.Reads ns constant v.Postfixed (word (placed style BeforeSuffix (printed style a)) ++ word (in_row (map (suffix_marks style) (x ∷ xs)))) (expr (shape.Postfix (bare_expr a) (map bare_of_suffix (x ∷ xs))) o)) (λ i. join (no_span a i) (last_place x xs i))
       (v.postfixed {a = bare_expr a} {xs = map bare_of_suffix (x ∷ xs)} (at BeforeSuffix a pa) r (still_follows a (x ∷ xs) h))))
 
   -- 6. Choices
 
   ChoicesRead : List Choice → Expr → Type 0
-  ChoicesRead cs e = v.Reads ns constant v.Choosing (word (in_row (map choice_marks cs) ++ placed Chosen (printed e))) (map bare_of_choice cs, bare_expr e) × P e
+  ChoicesRead cs e = v.Reads ns constant v.Choosing (word (in_row (map (choice_marks style) cs) ++ placed style Chosen (printed style e))) (map bare_of_choice cs, bare_expr e) × P e
 
   last_choice : (e : Expr) → P e → ChoicesRead [] e
   unfolding ChoicesRead
@@ -247,27 +255,27 @@ module _ (ns : Names) (constant : Bool) where
   one_choice : (a b : Expr) (cs : List Choice) (e : Expr) → P a → P b → ChoicesRead cs e → ChoicesRead (choice a b ∷ cs) e
   unfolding ChoicesRead
   one_choice a b cs e pa pb (r, pe) = (
-    subst (λ x. v.Reads ns constant v.Choosing (word (in_row (map choice_marks (choice a b ∷ cs)) ++ placed Chosen (printed e))) (x ∷ map bare_of_choice cs, bare_expr e)) (sym (choice_bare a b))
+    subst (λ x. v.Reads ns constant v.Choosing (word (in_row (map (choice_marks style) (choice a b ∷ cs)) ++ placed style Chosen (printed style e))) (x ∷ map bare_of_choice cs, bare_expr e)) (sym (choice_bare a b))
         (subst (λ w. v.Reads ns constant v.Choosing w (choice (bare_expr a) (bare_expr b) ∷ map bare_of_choice cs, bare_expr e)) (sym flat)
         (v.more_choices (token (k.Sign sign.Question) []) (token (k.Sign sign.Colon) []) (at Chosen a pa) refl (at Anywhere b pb) refl r)),
     pe,
   )
     where
       rest : Marks
-      rest = in_row (map choice_marks cs) ++ placed Chosen (printed e)
+      rest = in_row (map (choice_marks style) cs) ++ placed style Chosen (printed style e)
 
-      flat : word (choice_marks (choice a b) ++ in_row (map choice_marks cs) ++ placed Chosen (printed e))
-          ≡ word (placed Chosen (printed a)) ++ token (k.Sign sign.Question) [] ∷ word (placed Anywhere (printed b)) ++ token (k.Sign sign.Colon) [] ∷ word (in_row (map choice_marks cs) ++ placed Chosen (printed e))
-      flat = ap word (append_assoc (choice_marks (choice a b)) (in_row (map choice_marks cs)) (placed Chosen (printed e)))
-          ∙ word_append (choice_marks (choice a b)) (in_row (map choice_marks cs) ++ placed Chosen (printed e))
-          ∙ ap (λ w. w ++ word (in_row (map choice_marks cs) ++ placed Chosen (printed e)))
-          (ap word (choice_written a b)
-          ∙ word_append (placed Chosen (printed a) ++ spaced sign.Question ++ placed Anywhere (printed b)) (spaced sign.Colon)
+      flat : word (choice_marks style (choice a b) ++ in_row (map (choice_marks style) cs) ++ placed style Chosen (printed style e))
+          ≡ word (placed style Chosen (printed style a)) ++ token (k.Sign sign.Question) [] ∷ word (placed style Anywhere (printed style b)) ++ token (k.Sign sign.Colon) [] ∷ word (in_row (map (choice_marks style) cs) ++ placed style Chosen (printed style e))
+      flat = ap word (append_assoc (choice_marks style (choice a b)) (in_row (map (choice_marks style) cs)) (placed style Chosen (printed style e)))
+          ∙ word_append (choice_marks style (choice a b)) (in_row (map (choice_marks style) cs) ++ placed style Chosen (printed style e))
+          ∙ ap (λ w. w ++ word (in_row (map (choice_marks style) cs) ++ placed style Chosen (printed style e)))
+          (ap word (choice_written style a b)
+          ∙ word_append (placed style Chosen (printed style a) ++ spaced sign.Question ++ placed style Anywhere (printed style b)) (spaced sign.Colon)
           ∙ ap (λ w. w ++ token (k.Sign sign.Colon) [] ∷ [])
-          (word_append (placed Chosen (printed a) ++ spaced sign.Question) (placed Anywhere (printed b))
-          ∙ ap (λ w. w ++ word (placed Anywhere (printed b))) (word_append (placed Chosen (printed a)) (spaced sign.Question))
-          ∙ append_assoc (word (placed Chosen (printed a))) (token (k.Sign sign.Question) [] ∷ []) (word (placed Anywhere (printed b)))))
-          ∙ append_assoc (word (placed Chosen (printed a)) ++ token (k.Sign sign.Question) [] ∷ word (placed Anywhere (printed b))) (token (k.Sign sign.Colon) [] ∷ []) (word (in_row (map choice_marks cs) ++ placed Chosen (printed e)))
+          (word_append (placed style Chosen (printed style a) ++ spaced sign.Question) (placed style Anywhere (printed style b))
+          ∙ ap (λ w. w ++ word (placed style Anywhere (printed style b))) (word_append (placed style Chosen (printed style a)) (spaced sign.Question))
+          ∙ append_assoc (word (placed style Chosen (printed style a))) (token (k.Sign sign.Question) [] ∷ []) (word (placed style Anywhere (printed style b)))))
+          ∙ append_assoc (word (placed style Chosen (printed style a)) ++ token (k.Sign sign.Question) [] ∷ word (placed style Anywhere (printed style b))) (token (k.Sign sign.Colon) [] ∷ []) (word (in_row (map (choice_marks style) cs) ++ placed style Chosen (printed style e)))
 
   test_span : (c : Choice) → span_of (out-Choice (bare_of_choice c)).test ≡ nowhere
   test_span c = choice_span c
@@ -276,35 +284,35 @@ module _ (ns : Names) (constant : Bool) where
   unfolding ChoicesRead
   chosen_read [] e (r, pe) = pe
   chosen_read (c ∷ cs) e (r, pe) =
-      made _ _ _ (printed_at (Shape-F.Conditional (c ∷ cs) e) _) (bare_at (Shape-F.Conditional (c ∷ cs) e) _)
-      (subst (λ o. v.Reads ns constant v.Value (word (in_row (map choice_marks (c ∷ cs)) ++ placed Chosen (printed e))) (expr (shape.Conditional (map bare_of_choice (c ∷ cs)) (bare_expr e)) o)) (λ i. join (test_span c i) (no_span e i))
+      made _ _ _ (printed_at style (Shape-F.Conditional (c ∷ cs) e) _) (bare_at (Shape-F.Conditional (c ∷ cs) e) _)
+      (subst (λ o. v.Reads ns constant v.Value (word (in_row (map (choice_marks style) (c ∷ cs)) ++ placed style Chosen (printed style e))) (expr (shape.Conditional (map bare_of_choice (c ∷ cs)) (bare_expr e)) o)) (λ i. join (test_span c i) (no_span e i))
       (v.value {cs = map bare_of_choice (c ∷ cs)} {e = bare_expr e} r))
 
   -- 7. Brackets and single values
 
   bracketed_read : (s : Span) (a : Expr) → P a → P (bracketed s a)
-  bracketed_read s a pa = subst (λ (q : Printed). g.Own ns constant q.grade (word q.marks) (bare_expr (bracketed s a))) (printed_span s a)
-      (subst (g.Own ns constant (printed a).grade (word (printed a).marks)) (bare_span s a) pa)
+  bracketed_read s a pa = subst (λ (q : Printed). g.Own ns constant q.grade (word q.marks) (bare_expr (bracketed s a))) (printed_span style s a)
+      (subst (g.Own ns constant (printed style a).grade (word (printed style a).marks)) (bare_span s a) pa)
 
-  single_read : (l : Shape-F Shape Suffix Choice Expr Link) (o : Span) → g.Own ns constant (print_shape (shape_layer l)).grade (word (print_shape (shape_layer l)).marks) (expr (bare_shape (bare_layer l)) nowhere) → P (expr (shape_at l) o)
-  single_read l o r = made _ _ _ (printed_at l o) (bare_at l o) r
+  single_read : (l : Shape-F Shape Suffix Choice Expr Link) (o : Span) → g.Own ns constant (print_shape style (shape_layer style l)).grade (word (print_shape style (shape_layer style l)).marks) (expr (bare_shape (bare_layer l)) nowhere) → P (expr (shape_at l) o)
+  single_read l o r = made _ _ _ (printed_at style l o) (bare_at l o) r
 
   -- 8. All readings
 
   ArgumentsRead : List Expr → Type 0
-  ArgumentsRead es = v.Reads ns constant v.Arguments (word (arguments_marks es)) (map bare_expr es)
+  ArgumentsRead es = v.Reads ns constant v.Arguments (word (arguments_marks style es)) (map bare_expr es)
 
   MoreRead : List Expr → Type 0
-  MoreRead es = v.Reads ns constant v.MoreArguments (word (more_arguments_marks es)) (map bare_expr es)
+  MoreRead es = v.Reads ns constant v.MoreArguments (word (more_arguments_marks style es)) (map bare_expr es)
 
   one_more : (a : Expr) (es : List Expr) → P a → MoreRead es → MoreRead (a ∷ es)
   unfolding MoreRead
-  one_more a es pa r = subst (λ w. v.Reads ns constant v.MoreArguments w (bare_expr a ∷ map bare_expr es)) (sym (ap (λ w. token (k.Sign sign.Comma) [] ∷ w) (word_append (placed Anywhere (printed a)) (more_arguments_marks es))))
+  one_more a es pa r = subst (λ w. v.Reads ns constant v.MoreArguments w (bare_expr a ∷ map bare_expr es)) (sym (ap (λ w. token (k.Sign sign.Comma) [] ∷ w) (word_append (placed style Anywhere (printed style a)) (more_arguments_marks style es))))
       (v.more_arguments refl (at Anywhere a pa) r)
 
   all_arguments : (a : Expr) (es : List Expr) → P a → MoreRead es → ArgumentsRead (a ∷ es)
   unfolding MoreRead ArgumentsRead
-  all_arguments a es pa r = subst (λ w. v.Reads ns constant v.Arguments w (bare_expr a ∷ map bare_expr es)) (sym (word_append (placed Anywhere (printed a)) (more_arguments_marks es)))
+  all_arguments a es pa r = subst (λ w. v.Reads ns constant v.Arguments w (bare_expr a ∷ map bare_expr es)) (sym (word_append (placed style Anywhere (printed style a)) (more_arguments_marks style es)))
       (v.arguments (at Anywhere a pa) r)
 
   size_read : (c : CType) (o s : Span) → v.Reads ns constant v.Primary (token (k.Keyword keyword.Sizeof) [] ∷ token (k.Sign sign.OpenParen) [] ∷ word (type_marks c) ++ token (k.Sign sign.CloseParen) [] ∷ []) (expr (shape.SizeOf (bare_type c) nowhere) nowhere)
@@ -326,10 +334,10 @@ module _ (ns : Names) (constant : Bool) where
       (subst (λ w. v.Reads ns constant v.Prefixed w (record { prefix = prefix.Cast (bare_type c); span = nowhere } ∷ map bare_prefix ps, bare_expr a)) flat
       (v.cast (token (k.Sign sign.CloseParen) []) refl t h refl r)) pa
     where
-      flat : token (k.Sign sign.OpenParen) [] ∷ word (type_marks c) ++ token (k.Sign sign.CloseParen) [] ∷ word (prefixes_marks ps ++ placed BehindPrefix (printed a))
-          ≡ word (in_brackets (type_marks c)) ++ word (prefixes_marks ps ++ placed BehindPrefix (printed a))
-      flat = ap (λ w. token (k.Sign sign.OpenParen) [] ∷ w) (sym (append_assoc (word (type_marks c)) (token (k.Sign sign.CloseParen) [] ∷ []) (word (prefixes_marks ps ++ placed BehindPrefix (printed a))))
-          ∙ ap (λ w. w ++ word (prefixes_marks ps ++ placed BehindPrefix (printed a))) (sym (word_append (type_marks c) (ASign sign.CloseParen ∷ []))))
+      flat : token (k.Sign sign.OpenParen) [] ∷ word (type_marks c) ++ token (k.Sign sign.CloseParen) [] ∷ word (prefixes_marks ps ++ placed style BehindPrefix (printed style a))
+          ≡ word (in_brackets (type_marks c)) ++ word (prefixes_marks ps ++ placed style BehindPrefix (printed style a))
+      flat = ap (λ w. token (k.Sign sign.OpenParen) [] ∷ w) (sym (append_assoc (word (type_marks c)) (token (k.Sign sign.CloseParen) [] ∷ []) (word (prefixes_marks ps ++ placed style BehindPrefix (printed style a))))
+          ∙ ap (λ w. w ++ word (prefixes_marks ps ++ placed style BehindPrefix (printed style a))) (sym (word_append (type_marks c) (ASign sign.CloseParen ∷ []))))
 
   -- what a reading of a part gives for what is written of it
   Claim : (p : v.Part) → v.tree_of p → Type 0
@@ -378,22 +386,22 @@ module _ (ns : Names) (constant : Bool) where
   reading v.no_more = v.no_more
   reading (v.more_arguments {a} {xs} i ra rest) = one_more a xs (reading ra) (reading rest)
 
-  pub value_read : {w : Word} {e : Expr} → v.Reads ns constant v.Value w e → v.Reads ns constant v.Value (word (value_marks e)) (bare_expr e)
+  pub value_read : {w : Word} {e : Expr} → v.Reads ns constant v.Value w e → v.Reads ns constant v.Value (word (value_marks style e)) (bare_expr e)
   unfolding Claim
   value_read {e} r = at Anywhere e (reading r)
 
-  pub operand_read : (l : Level) (e : Expr) {w : Word} → v.Reads ns constant (v.Operand l) w e → v.Reads ns constant (v.Operand l) (word (placed (Operand l) (printed e))) (bare_expr e)
+  pub operand_read : (l : Level) (e : Expr) {w : Word} → v.Reads ns constant (v.Operand l) w e → v.Reads ns constant (v.Operand l) (word (placed style (Operand l) (printed style e))) (bare_expr e)
   unfolding Claim
   operand_read l e r = at (Operand l) e (reading r)
 
-  pub callee_read : (e : Expr) {w : Word} → v.Reads ns constant v.Postfixed w e → v.Reads ns constant v.Postfixed (word (placed BehindPrefix (printed e))) (bare_expr e)
+  pub callee_read : (e : Expr) {w : Word} → v.Reads ns constant v.Postfixed w e → v.Reads ns constant v.Postfixed (word (placed style BehindPrefix (printed style e))) (bare_expr e)
   unfolding Claim
   callee_read e r = at BehindPrefix e (reading r)
 
-  pub arguments_read : (es : List Expr) {w : Word} → v.Reads ns constant v.Arguments w es → v.Reads ns constant v.Arguments (word (arguments_marks es)) (map bare_expr es)
+  pub arguments_read : (es : List Expr) {w : Word} → v.Reads ns constant v.Arguments w es → v.Reads ns constant v.Arguments (word (arguments_marks style es)) (map bare_expr es)
   unfolding Claim ArgumentsRead
   arguments_read es r = reading r
 
-  pub more_read : (es : List Expr) {w : Word} → v.Reads ns constant v.MoreArguments w es → v.Reads ns constant v.MoreArguments (word (more_arguments_marks es)) (map bare_expr es)
+  pub more_read : (es : List Expr) {w : Word} → v.Reads ns constant v.MoreArguments w es → v.Reads ns constant v.MoreArguments (word (more_arguments_marks style es)) (map bare_expr es)
   unfolding Claim MoreRead
   more_read es r = reading r

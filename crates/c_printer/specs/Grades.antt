@@ -2,6 +2,8 @@
 use Rattle.std.specs.Prelude.{ℕ, ◌&&◌, ◌||◌, not, nat_le, nat_lt, Bool, true, false}
 use Rattle.c_tree.specs.declared.operators.Level.{Level}
 use Rattle.c_tree.specs.declared.operators.Level.TheVariants as level
+use Rattle.c_printer.specs.declared.grade.Brackets.{Brackets}
+use Rattle.c_printer.specs.declared.grade.Brackets.TheVariants.{Clear, Needed}
 use Rattle.c_printer.specs.declared.grade.Grade.{Grade}
 use Rattle.c_printer.specs.declared.grade.Grade.TheVariants.{Choosing, Chaining, Prefixing, Suffixing, Single}
 use Rattle.c_printer.specs.declared.grade.Place.{Place}
@@ -84,5 +86,6 @@ is_unclear (Operand k) (Prefixing n) = n && is_unclear_not k
 is_unclear p g = false
 
 -- a value stands at a place without brackets
-abbrev pub stands : Place → Grade → Bool
-stands p g = binds p g && not (is_unclear p g)
+abbrev pub stands : Brackets → Place → Grade → Bool
+stands Clear p g = binds p g && not (is_unclear p g)
+stands Needed p g = binds p g

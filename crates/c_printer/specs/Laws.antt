@@ -10,6 +10,7 @@ use Rattle.c_tree.specs.Types.{ReadsType}
 use Rattle.c_tree.specs.Values.{Reads, Value}
 use Rattle.c_tree.specs.Statements.{ReadsBlock}
 use Rattle.c_tree.specs.Bare.{bare_type, bare_expr, bare_block}
+use Rattle.c_printer.specs.declared.grade.Brackets.{Brackets}
 use Rattle.c_printer.specs.Alike.{Alike}
 use Rattle.c_printer.specs.Marks.{Marks, word, put_marks}
 use Rattle.c_printer.specs.PutStatements.{block_marks}
@@ -23,11 +24,11 @@ TypesAreRead = (ns : Names) (anyhow : Bool) (w : Word) (c : CType) → ReadsType
 
 -- and so is a value
 abbrev pub ValuesAreRead : Type 0
-ValuesAreRead = (ns : Names) (constant : Bool) (w : Word) (e : Expr) → Reads ns constant Value w e → Reads ns constant Value (word (value_marks e)) (bare_expr e)
+ValuesAreRead = (style : Brackets) (ns : Names) (constant : Bool) (w : Word) (e : Expr) → Reads ns constant Value w e → Reads ns constant Value (word (value_marks style e)) (bare_expr e)
 
 -- and so are declarations and statements
 abbrev pub BlocksAreRead : Type 0
-BlocksAreRead = (ns : Names) (indent : ℕ) (w : Word) (b : Block) → ReadsBlock ns w b → ReadsBlock ns (word (block_marks b indent)) (bare_block b)
+BlocksAreRead = (style : Brackets) (ns : Names) (indent : ℕ) (w : Word) (b : Block) → ReadsBlock ns w b → ReadsBlock ns (word (block_marks style b indent)) (bare_block b)
 
 -- the bytes that are written have the tokens that were put, at their places
 abbrev pub TokensAreRead : Type 0

@@ -20,6 +20,7 @@ use Rattle.c_tree.specs.declared.unit.Signature.{Signature}
 use Rattle.c_tree.specs.declared.unit.StaticVariable.{StaticVariable}
 use Rattle.c_tree.specs.declared.unit.StructDefinition.{StructDefinition}
 use Rattle.c_tree.specs.declared.unit.Unit.{Unit as CUnit}
+use Rattle.c_printer.specs.declared.grade.Brackets.{Brackets}
 use Rattle.c_printer.specs.declared.group.Group.{Group}
 use Rattle.c_printer.specs.declared.group.Group.TheVariants.{Includes, Types, Prototypes, Variables, Long}
 use Rattle.c_printer.specs.Marks.{Marks, Name, AKeyword, AConstant, Chars, ASign, Space, Line}
@@ -177,18 +178,18 @@ abbrev pub function_type_marks : Signature → Marks
 function_type_marks s = AKeyword keyword.Typedef ∷ Space ∷ declared_marks s.result ++ taken_by_pointer s.name s.parameters ++ ASign sign.Semicolon ∷ []
 
 -- the head of a function on a line, and its body from the next line on
-abbrev pub function_marks : Definition → Marks
-function_marks f = signature_marks f.signature ++ Line 0 ∷ block_marks f.body 0
+abbrev pub function_marks : Brackets → Definition → Marks
+function_marks style f = signature_marks f.signature ++ Line 0 ∷ block_marks style f.body 0
 
 -- 4. Variables
 
 -- `v = 1`
-abbrev pub set_marks : tree.Name → Expr → Marks
-set_marks x a = Name x.text ∷ spaced sign.Assign ++ value_marks a
+abbrev pub set_marks : Brackets → tree.Name → Expr → Marks
+set_marks style x a = Name x.text ∷ spaced sign.Assign ++ value_marks style a
 
 -- `static gint v = 1;`
-abbrev pub variable_marks : StaticVariable → Marks
-variable_marks v = AKeyword keyword.Static ∷ Space ∷ declared_marks v.declared ++ set_marks v.name v.value ++ ASign sign.Semicolon ∷ []
+abbrev pub variable_marks : Brackets → StaticVariable → Marks
+variable_marks style v = AKeyword keyword.Static ∷ Space ∷ declared_marks v.declared ++ set_marks style v.name v.value ++ ASign sign.Semicolon ∷ []
 
 -- `(GInterfaceInitFunc) `
 abbrev pub init_cast_marks : Marks
@@ -217,16 +218,16 @@ interface_marks t = interface_type_marks ++ Name t.name.text ∷ spaced sign.Ass
 -- 5. Items
 
 -- an item
-abbrev pub item_marks : Item → Marks
-item_marks (item.Include f) = include_marks f
-item_marks (item.StructType x) = struct_type_marks x
-item_marks (item.Struct s) = fields_marks s
-item_marks (item.Enumeration e) = enum_marks e
-item_marks (item.FunctionType s) = function_type_marks s
-item_marks (item.Prototype s) = prototype_marks s
-item_marks (item.Variable v) = variable_marks v
-item_marks (item.InterfaceTable t) = interface_marks t
-item_marks (item.Function f) = function_marks f
+abbrev pub item_marks : Brackets → Item → Marks
+item_marks style (item.Include f) = include_marks f
+item_marks style (item.StructType x) = struct_type_marks x
+item_marks style (item.Struct s) = fields_marks s
+item_marks style (item.Enumeration e) = enum_marks e
+item_marks style (item.FunctionType s) = function_type_marks s
+item_marks style (item.Prototype s) = prototype_marks s
+item_marks style (item.Variable v) = variable_marks style v
+item_marks style (item.InterfaceTable t) = interface_marks t
+item_marks style (item.Function f) = function_marks style f
 
 -- items of one line are grouped by their sort
 abbrev pub group_of : Item → Group
@@ -254,14 +255,14 @@ between_items None g = []
 between_items (Some f) g = if is_close f g then Line 0 ∷ [] else Line 0 ∷ Line 0 ∷ []
 
 -- an item behind another, or the first one
-abbrev pub next_item_marks : Option Group → Item → Marks
-next_item_marks o i = between_items o (group_of i) ++ item_marks i
+abbrev pub next_item_marks : Brackets → Option Group → Item → Marks
+next_item_marks style o i = between_items o (group_of i) ++ item_marks style i
 
 -- items behind an item, or the first ones
-abbrev pub items_marks : Option Group → List Item → Marks
-items_marks o [] = []
-items_marks o (i ∷ is) = next_item_marks o i ++ items_marks (Some (group_of i)) is
+abbrev pub items_marks : Brackets → Option Group → List Item → Marks
+items_marks style o [] = []
+items_marks style o (i ∷ is) = next_item_marks style o i ++ items_marks style (Some (group_of i)) is
 
 -- A WHOLE UNIT. Its text ends with a line feed.
-abbrev pub unit_marks : CUnit → Marks
-unit_marks u = items_marks None u.items ++ Line 0 ∷ []
+abbrev pub unit_marks : Brackets → CUnit → Marks
+unit_marks style u = items_marks style None u.items ++ Line 0 ∷ []

@@ -17,6 +17,7 @@ use Rattle.c_tree.specs.declared.code.Stmt.{Stmt}
 use Rattle.c_tree.specs.declared.code.Stmt.TheOpen.{Stmt-F, Block-F}
 use Rattle.c_tree.specs.declared.code.Stmt.TheFolds.{fold-Stmt, fold-Block}
 use Rattle.c_tree.specs.declared.code.Block.{Block}
+use Rattle.c_printer.specs.declared.grade.Brackets.{Brackets}
 use Rattle.c_printer.specs.declared.grade.Place.TheVariants.{Operand, BehindPrefix}
 use Rattle.c_printer.specs.Marks.{Marks, Name, AKeyword, Number, ASign, Space, Line}
 use Rattle.c_printer.specs.PutValues.{type_marks, in_brackets, placed, printed, value_marks, arguments_marks, more_arguments_marks, spaced}
@@ -48,22 +49,22 @@ locals_marks n (l ∷ ls) = Line n ∷ local_marks l ++ locals_marks n ls
 -- 2. Calls
 
 -- what is called
-abbrev pub callee_marks : Callee → Marks
-callee_marks (callee.Value a) = placed BehindPrefix (printed a)
-callee_marks (callee.Row x) = Name x.text ∷ []
+abbrev pub callee_marks : Brackets → Callee → Marks
+callee_marks style (callee.Value a) = placed style BehindPrefix (printed style a)
+callee_marks style (callee.Row x) = Name x.text ∷ []
 
 -- a type, and values behind it
-abbrev pub type_and_more_marks : CType → List Expr → Marks
-type_and_more_marks c es = type_marks c ++ more_arguments_marks es
+abbrev pub type_and_more_marks : Brackets → CType → List Expr → Marks
+type_and_more_marks style c es = type_marks c ++ more_arguments_marks style es
 
 -- what stands between the brackets
-abbrev pub between_marks : Option CType → List Expr → Marks
-between_marks None es = arguments_marks es
-between_marks (Some c) es = type_and_more_marks c es
+abbrev pub between_marks : Brackets → Option CType → List Expr → Marks
+between_marks style None es = arguments_marks style es
+between_marks style (Some c) es = type_and_more_marks style c es
 
 -- `f (a, b)`
-abbrev pub call_marks : Call → Marks
-call_marks c = callee_marks c.callee ++ Space ∷ in_brackets (between_marks c.type_argument c.arguments)
+abbrev pub call_marks : Brackets → Call → Marks
+call_marks style c = callee_marks style c.callee ++ Space ∷ in_brackets (between_marks style c.type_argument c.arguments)
 
 -- 3. Simple statements
 
@@ -76,45 +77,45 @@ abbrev pub goto_marks : tree.Name → Marks
 goto_marks x = AKeyword keyword.Goto ∷ Space ∷ name_ended x
 
 -- a place that is stored to
-abbrev pub place_marks : Expr → Marks
-place_marks a = placed (Operand level.Product) (printed a)
+abbrev pub place_marks : Brackets → Expr → Marks
+place_marks style a = placed style (Operand level.Product) (printed style a)
 
 -- `x = `
-abbrev pub to_place : Expr → Marks
-to_place a = place_marks a ++ spaced sign.Assign
+abbrev pub to_place : Brackets → Expr → Marks
+to_place style a = place_marks style a ++ spaced sign.Assign
 
 -- `if (x)`, and the same of `switch`
-abbrev pub tested : Keyword → Expr → Marks
-tested w a = AKeyword w ∷ Space ∷ in_brackets (value_marks a)
+abbrev pub tested : Brackets → Keyword → Expr → Marks
+tested style w a = AKeyword w ∷ Space ∷ in_brackets (value_marks style a)
 
 -- a `;` behind
 abbrev pub ended : Marks → Marks
 ended ms = ms ++ ASign sign.Semicolon ∷ []
 
 -- `x = y;`
-abbrev pub assign_marks : Expr → Expr → Marks
-assign_marks a b = ended (to_place a ++ value_marks b)
+abbrev pub assign_marks : Brackets → Expr → Expr → Marks
+assign_marks style a b = ended (to_place style a ++ value_marks style b)
 
 -- `x = f (y);`
-abbrev pub store_marks : Expr → Call → Marks
-store_marks a c = ended (to_place a ++ call_marks c)
+abbrev pub store_marks : Brackets → Expr → Call → Marks
+store_marks style a c = ended (to_place style a ++ call_marks style c)
 
 -- `if (x) goto L;`
-abbrev pub if_goto_marks : Expr → tree.Name → Marks
-if_goto_marks a x = tested keyword.If a ++ Space ∷ goto_marks x
+abbrev pub if_goto_marks : Brackets → Expr → tree.Name → Marks
+if_goto_marks style a x = tested style keyword.If a ++ Space ∷ goto_marks x
 
 -- `L: ;`
 abbrev pub label_marks : tree.Name → Marks
 label_marks x = Name x.text ∷ ASign sign.Colon ∷ Space ∷ ASign sign.Semicolon ∷ []
 
 -- the value behind `return`
-abbrev pub return_marks : Option Expr → Marks
-return_marks None = []
-return_marks (Some a) = Space ∷ value_marks a
+abbrev pub return_marks : Brackets → Option Expr → Marks
+return_marks style None = []
+return_marks style (Some a) = Space ∷ value_marks style a
 
 -- `return x;`
-abbrev pub return_statement_marks : Option Expr → Marks
-return_statement_marks o = ended (AKeyword keyword.Return ∷ return_marks o)
+abbrev pub return_statement_marks : Brackets → Option Expr → Marks
+return_statement_marks style o = ended (AKeyword keyword.Return ∷ return_marks style o)
 
 -- `case 1:`
 abbrev pub case_number_marks : SignedNumber → Marks
@@ -146,8 +147,8 @@ abbrev pub branches_marks : ℕ → List Case → tree.Name → Marks
 branches_marks n cs x = ASign sign.OpenBrace ∷ cases_marks n cs ++ default_marks n x ++ close_marks n
 
 -- `switch (x) { case 1: goto L; default: goto L; }`
-abbrev pub switch_marks : ℕ → Expr → List Case → tree.Name → Marks
-switch_marks n a cs x = tested keyword.Switch a ++ Space ∷ ASign sign.OpenBrace ∷ cases_marks n cs ++ default_marks n x ++ close_marks n
+abbrev pub switch_marks : Brackets → ℕ → Expr → List Case → tree.Name → Marks
+switch_marks style n a cs x = tested style keyword.Switch a ++ Space ∷ ASign sign.OpenBrace ∷ cases_marks n cs ++ default_marks n x ++ close_marks n
 
 -- 4. Statements and blocks
 
@@ -165,25 +166,25 @@ else_marks None n = []
 else_marks (Some d) n = Space ∷ AKeyword keyword.Else ∷ Space ∷ d n
 
 -- `if (x) `
-abbrev pub if_head_marks : Expr → Marks
-if_head_marks a = tested keyword.If a ++ Space ∷ []
+abbrev pub if_head_marks : Brackets → Expr → Marks
+if_head_marks style a = tested style keyword.If a ++ Space ∷ []
 
 -- `if (x) block else block`
-abbrev pub if_marks : Expr → Indented → Indented → Indented
-if_marks a b d n = tested keyword.If a ++ Space ∷ b n ++ d n
+abbrev pub if_marks : Brackets → Expr → Indented → Indented → Indented
+if_marks style a b d n = tested style keyword.If a ++ Space ∷ b n ++ d n
 
 -- one level of a statement
-abbrev pub print_stmt : Stmt-F Indented Indented → Indented
-print_stmt (Stmt-F.Assign a b) n = assign_marks a b
-print_stmt (Stmt-F.Call c) n = ended (call_marks c)
-print_stmt (Stmt-F.Store a c) n = store_marks a c
-print_stmt (Stmt-F.If a b o) n = if_marks a b (else_marks o) n
-print_stmt (Stmt-F.IfGoto a x) n = if_goto_marks a x
-print_stmt (Stmt-F.Goto x) n = goto_marks x
-print_stmt (Stmt-F.Label x) n = label_marks x
-print_stmt (Stmt-F.Switch a cs x) n = switch_marks n a cs x
-print_stmt (Stmt-F.Return s o) n = return_statement_marks o
-print_stmt (Stmt-F.Block b) n = b n
+abbrev pub print_stmt : Brackets → Stmt-F Indented Indented → Indented
+print_stmt style (Stmt-F.Assign a b) n = assign_marks style a b
+print_stmt style (Stmt-F.Call c) n = ended (call_marks style c)
+print_stmt style (Stmt-F.Store a c) n = store_marks style a c
+print_stmt style (Stmt-F.If a b o) n = if_marks style a b (else_marks o) n
+print_stmt style (Stmt-F.IfGoto a x) n = if_goto_marks style a x
+print_stmt style (Stmt-F.Goto x) n = goto_marks x
+print_stmt style (Stmt-F.Label x) n = label_marks x
+print_stmt style (Stmt-F.Switch a cs x) n = switch_marks style n a cs x
+print_stmt style (Stmt-F.Return s o) n = return_statement_marks style o
+print_stmt style (Stmt-F.Block b) n = b n
 
 -- each on a line
 abbrev pub lines : ℕ → List Indented → Marks
@@ -195,14 +196,14 @@ abbrev pub print_block : Block-F Indented Indented → Indented
 print_block b n = ASign sign.OpenBrace ∷ locals_marks (deeper n) b.locals ++ lines (deeper n) b.body ++ close_marks n
 
 -- a statement
-abbrev pub stmt_marks : Stmt → Indented
-stmt_marks = fold-Stmt Indented Indented print_stmt print_block
+abbrev pub stmt_marks : Brackets → Stmt → Indented
+stmt_marks style = fold-Stmt Indented Indented (print_stmt style) print_block
 
 -- a block
-abbrev pub block_marks : Block → Indented
-block_marks = fold-Block Indented Indented print_stmt print_block
+abbrev pub block_marks : Brackets → Block → Indented
+block_marks style = fold-Block Indented Indented (print_stmt style) print_block
 
 -- `else` and a block, where there is one
-abbrev pub else_block_marks : Option Block → Indented
-else_block_marks None n = []
-else_block_marks (Some b) n = Space ∷ AKeyword keyword.Else ∷ Space ∷ block_marks b n
+abbrev pub else_block_marks : Brackets → Option Block → Indented
+else_block_marks style None n = []
+else_block_marks style (Some b) n = Space ∷ AKeyword keyword.Else ∷ Space ∷ block_marks style b n

@@ -22,6 +22,7 @@ use Rattle.c_tree.specs.declared.code.Suffix.{Suffix}
 use Rattle.c_tree.specs.declared.code.Choice.{Choice}
 use Rattle.c_tree.specs.declared.code.Link.{Link}
 use Rattle.c_tree.specs.Kinds.{level_of}
+use Rattle.c_printer.specs.declared.grade.Brackets.{Brackets}
 use Rattle.c_printer.specs.declared.grade.Grade.{Grade}
 use Rattle.c_printer.specs.declared.grade.Grade.TheVariants.{Choosing, Chaining, Prefixing, Suffixing, Single}
 use Rattle.c_printer.specs.declared.grade.Place.{Place}
@@ -110,8 +111,8 @@ pub record PrintedLink : Type 0 where
   pub marks : Marks
 
 -- a value at a place
-abbrev pub placed : Place → Printed → Marks
-placed p a = if stands p a.grade then a.marks else in_brackets a.marks
+abbrev pub placed : Brackets → Place → Printed → Marks
+placed style p a = if stands style p a.grade then a.marks else in_brackets a.marks
 
 abbrev pub is_not : Prefix → Bool
 is_not prefix.Not = true
@@ -146,74 +147,74 @@ abbrev pub offset_marks : CType → tree.Name → Marks
 offset_marks c x = AKeyword keyword.StructOffset ∷ Space ∷ ASign sign.OpenParen ∷ field_marks c x
 
 -- one level of a value
-abbrev pub print_shape : Shape-F Printed Marks Marks Printed PrintedLink → Printed
-print_shape (Shape-F.Number n) = single (Number n.value n.kind ∷ [])
-print_shape (Shape-F.Character b) = single (Character b ∷ [])
-print_shape (Shape-F.Text z) = single (Chars z ∷ [])
-print_shape (Shape-F.Constant c) = single (AConstant c ∷ [])
-print_shape (Shape-F.Variable x) = single (Name x.text ∷ [])
-print_shape (Shape-F.Function x) = single (Name x.text ∷ [])
-print_shape (Shape-F.Member x) = single (Name x.text ∷ [])
-print_shape (Shape-F.SizeOf c s) = single (size_marks c)
-print_shape (Shape-F.Offset c x s) = single (offset_marks c x)
-print_shape (Shape-F.Prefix ps a) = record { grade = Prefixing (begins_with_not ps); marks = prefixes_marks ps ++ placed BehindPrefix a }
-print_shape (Shape-F.Postfix a xs) = record { grade = Suffixing; marks = placed BeforeSuffix a ++ in_row xs }
-print_shape (Shape-F.Chain a ls) = record { grade = Chaining (chain_level ls); marks = placed (Operand (chain_level ls)) a ++ link_marks ls }
-print_shape (Shape-F.Conditional cs e) = record { grade = Choosing; marks = in_row cs ++ placed Chosen e }
+abbrev pub print_shape : Brackets → Shape-F Printed Marks Marks Printed PrintedLink → Printed
+print_shape style (Shape-F.Number n) = single (Number n.value n.kind ∷ [])
+print_shape style (Shape-F.Character b) = single (Character b ∷ [])
+print_shape style (Shape-F.Text z) = single (Chars z ∷ [])
+print_shape style (Shape-F.Constant c) = single (AConstant c ∷ [])
+print_shape style (Shape-F.Variable x) = single (Name x.text ∷ [])
+print_shape style (Shape-F.Function x) = single (Name x.text ∷ [])
+print_shape style (Shape-F.Member x) = single (Name x.text ∷ [])
+print_shape style (Shape-F.SizeOf c s) = single (size_marks c)
+print_shape style (Shape-F.Offset c x s) = single (offset_marks c x)
+print_shape style (Shape-F.Prefix ps a) = record { grade = Prefixing (begins_with_not ps); marks = prefixes_marks ps ++ placed style BehindPrefix a }
+print_shape style (Shape-F.Postfix a xs) = record { grade = Suffixing; marks = placed style BeforeSuffix a ++ in_row xs }
+print_shape style (Shape-F.Chain a ls) = record { grade = Chaining (chain_level ls); marks = placed style (Operand (chain_level ls)) a ++ link_marks ls }
+print_shape style (Shape-F.Conditional cs e) = record { grade = Choosing; marks = in_row cs ++ placed style Chosen e }
 
 -- `.f` or `->f`
 abbrev pub member_marks : Sign → tree.Name → Marks
 member_marks s x = ASign s ∷ Name x.text ∷ []
 
-abbrev pub index_marks : Printed → Marks
-index_marks i = ASign sign.OpenBracket ∷ placed Anywhere i ++ ASign sign.CloseBracket ∷ []
+abbrev pub index_marks : Brackets → Printed → Marks
+index_marks style i = ASign sign.OpenBracket ∷ placed style Anywhere i ++ ASign sign.CloseBracket ∷ []
 
 -- a sign between two spaces
 abbrev pub spaced : Sign → Marks
 spaced s = Space ∷ ASign s ∷ Space ∷ []
 
-abbrev pub print_suffix : Suffix-F Printed Marks Marks Printed PrintedLink → Marks
-print_suffix (Suffix-F.Field x) = member_marks sign.Dot x
-print_suffix (Suffix-F.Arrow x) = member_marks sign.Arrow x
-print_suffix (Suffix-F.Index i s) = index_marks i
+abbrev pub print_suffix : Brackets → Suffix-F Printed Marks Marks Printed PrintedLink → Marks
+print_suffix style (Suffix-F.Field x) = member_marks sign.Dot x
+print_suffix style (Suffix-F.Arrow x) = member_marks sign.Arrow x
+print_suffix style (Suffix-F.Index i s) = index_marks style i
 
-abbrev pub print_choice : Choice-F Printed Marks Marks Printed PrintedLink → Marks
-print_choice c = placed Chosen c.test ++ spaced sign.Question ++ placed Anywhere c.yes ++ spaced sign.Colon
+abbrev pub print_choice : Brackets → Choice-F Printed Marks Marks Printed PrintedLink → Marks
+print_choice style c = placed style Chosen c.test ++ spaced sign.Question ++ placed style Anywhere c.yes ++ spaced sign.Colon
 
 abbrev pub print_expr : Expr-F Printed Marks Marks Printed PrintedLink → Printed
 print_expr e = e.shape
 
-abbrev pub print_link : Link-F Printed Marks Marks Printed PrintedLink → PrintedLink
-print_link l = record { level = level_of l.operator; marks = spaced (sign_of l.operator) ++ placed (Operand (level_of l.operator)) l.operand }
+abbrev pub print_link : Brackets → Link-F Printed Marks Marks Printed PrintedLink → PrintedLink
+print_link style l = record { level = level_of l.operator; marks = spaced (sign_of l.operator) ++ placed style (Operand (level_of l.operator)) l.operand }
 
 -- a value
-abbrev pub printed : Expr → Printed
-printed = fold-Expr Printed Marks Marks Printed PrintedLink print_shape print_suffix print_choice print_expr print_link
+abbrev pub printed : Brackets → Expr → Printed
+printed style = fold-Expr Printed Marks Marks Printed PrintedLink (print_shape style) (print_suffix style) (print_choice style) print_expr (print_link style)
 
-abbrev pub printed_shape : Shape → Printed
-printed_shape = fold-Shape Printed Marks Marks Printed PrintedLink print_shape print_suffix print_choice print_expr print_link
+abbrev pub printed_shape : Brackets → Shape → Printed
+printed_shape style = fold-Shape Printed Marks Marks Printed PrintedLink (print_shape style) (print_suffix style) (print_choice style) print_expr (print_link style)
 
-abbrev pub suffix_marks : Suffix → Marks
-suffix_marks = fold-Suffix Printed Marks Marks Printed PrintedLink print_shape print_suffix print_choice print_expr print_link
+abbrev pub suffix_marks : Brackets → Suffix → Marks
+suffix_marks style = fold-Suffix Printed Marks Marks Printed PrintedLink (print_shape style) (print_suffix style) (print_choice style) print_expr (print_link style)
 
-abbrev pub choice_marks : Choice → Marks
-choice_marks = fold-Choice Printed Marks Marks Printed PrintedLink print_shape print_suffix print_choice print_expr print_link
+abbrev pub choice_marks : Brackets → Choice → Marks
+choice_marks style = fold-Choice Printed Marks Marks Printed PrintedLink (print_shape style) (print_suffix style) (print_choice style) print_expr (print_link style)
 
-abbrev pub printed_link : Link → PrintedLink
-printed_link = fold-Link Printed Marks Marks Printed PrintedLink print_shape print_suffix print_choice print_expr print_link
+abbrev pub printed_link : Brackets → Link → PrintedLink
+printed_link style = fold-Link Printed Marks Marks Printed PrintedLink (print_shape style) (print_suffix style) (print_choice style) print_expr (print_link style)
 
-abbrev pub value_marks : Expr → Marks
-value_marks e = placed Anywhere (printed e)
+abbrev pub value_marks : Brackets → Expr → Marks
+value_marks style e = placed style Anywhere (printed style e)
 
 -- a value behind another
-abbrev pub next_argument_marks : Expr → Marks
-next_argument_marks a = ASign sign.Comma ∷ Space ∷ value_marks a
+abbrev pub next_argument_marks : Brackets → Expr → Marks
+next_argument_marks style a = ASign sign.Comma ∷ Space ∷ value_marks style a
 
 -- values behind one another, with commas
-abbrev pub more_arguments_marks : List Expr → Marks
-more_arguments_marks [] = []
-more_arguments_marks (a ∷ es) = next_argument_marks a ++ more_arguments_marks es
+abbrev pub more_arguments_marks : Brackets → List Expr → Marks
+more_arguments_marks style [] = []
+more_arguments_marks style (a ∷ es) = next_argument_marks style a ++ more_arguments_marks style es
 
-abbrev pub arguments_marks : List Expr → Marks
-arguments_marks [] = []
-arguments_marks (a ∷ es) = value_marks a ++ more_arguments_marks es
+abbrev pub arguments_marks : Brackets → List Expr → Marks
+arguments_marks style [] = []
+arguments_marks style (a ∷ es) = value_marks style a ++ more_arguments_marks style es

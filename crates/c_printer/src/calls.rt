@@ -5,7 +5,7 @@ ghost use Rattle.c_printer.specs.Marks.{Wrote, Line};
 ghost use Rattle.c_printer.specs.PutStatements as spec;
 ghost use Rattle.c_printer.specs.PutValues.{arguments_marks, more_arguments_marks, next_argument_marks};
 
-use crate::grade::Place;
+use crate::grade::{Brackets, Place};
 use crate::output::Writer;
 use crate::piece::Piece;
 use crate::types::put_type;
@@ -75,19 +75,19 @@ pub fn put_locals(
 }
 
 #[tactic(auto, using(crate::proofs::MarkLemmas::put_append))]
-fn put_next_argument(alloc: Global, out: &mut Writer, value: &Expr) -> Result<(), Memory>
-    ensures { OnOk result (Wrote out.old (next_argument_marks value.now) out.new) }
+fn put_next_argument(alloc: Global, out: &mut Writer, brackets: Brackets, value: &Expr) -> Result<(), Memory>
+    ensures { OnOk result (Wrote out.old (next_argument_marks brackets value.now) out.new) }
 {
     out.token(alloc, Piece::Sign(Sign::Comma))?;
     out.space()?;
-    put_value(alloc, out, Place::Anywhere, value)
+    put_value(alloc, out, brackets, Place::Anywhere, value)
 }
 
-fn put_more_arguments(alloc: Global, out: &mut Writer, values: &[Expr]) -> Result<(), Memory>
-    ensures { OnOk result (Wrote out.old (more_arguments_marks values.now) out.new) }
+fn put_more_arguments(alloc: Global, out: &mut Writer, brackets: Brackets, values: &[Expr]) -> Result<(), Memory>
+    ensures { OnOk result (Wrote out.old (more_arguments_marks brackets values.now) out.new) }
 {
     for value in values {
-        put_next_argument(alloc, out, value)?;
+        put_next_argument(alloc, out, brackets, value)?;
     }
     Ok(())
 }
@@ -96,21 +96,22 @@ fn put_more_arguments(alloc: Global, out: &mut Writer, values: &[Expr]) -> Resul
 fn put_first_and_more(
     alloc: Global,
     out: &mut Writer,
+    brackets: Brackets,
     first: &Expr,
     more: &[Expr],
 ) -> Result<(), Memory>
-    ensures { OnOk result (Wrote out.old (arguments_marks (first.now ∷ more.now)) out.new) }
+    ensures { OnOk result (Wrote out.old (arguments_marks brackets (first.now ∷ more.now)) out.new) }
 {
-    put_value(alloc, out, Place::Anywhere, first)?;
-    put_more_arguments(alloc, out, more)
+    put_value(alloc, out, brackets, Place::Anywhere, first)?;
+    put_more_arguments(alloc, out, brackets, more)
 }
 
-fn put_arguments(alloc: Global, out: &mut Writer, values: &[Expr]) -> Result<(), Memory>
-    ensures { OnOk result (Wrote out.old (arguments_marks values.now) out.new) }
+fn put_arguments(alloc: Global, out: &mut Writer, brackets: Brackets, values: &[Expr]) -> Result<(), Memory>
+    ensures { OnOk result (Wrote out.old (arguments_marks brackets values.now) out.new) }
 {
     match values {
         [] => Ok(()),
-        [first, more @ ..] => put_first_and_more(alloc, out, first, more),
+        [first, more @ ..] => put_first_and_more(alloc, out, brackets, first, more),
     }
 }
 
@@ -118,46 +119,48 @@ fn put_arguments(alloc: Global, out: &mut Writer, values: &[Expr]) -> Result<(),
 fn put_type_and_more(
     alloc: Global,
     out: &mut Writer,
+    brackets: Brackets,
     declared: &CType,
     values: &[Expr],
 ) -> Result<(), Memory>
-    ensures { OnOk result (Wrote out.old (spec.type_and_more_marks declared.now values.now) out.new) }
+    ensures { OnOk result (Wrote out.old (spec.type_and_more_marks brackets declared.now values.now) out.new) }
 {
     put_type(alloc, out, declared)?;
-    put_more_arguments(alloc, out, values)
+    put_more_arguments(alloc, out, brackets, values)
 }
 
 fn put_between(
     alloc: Global,
     out: &mut Writer,
+    brackets: Brackets,
     first: &Option<CType>,
     values: &[Expr],
 ) -> Result<(), Memory>
-    ensures { OnOk result (Wrote out.old (spec.between_marks first.now values.now) out.new) }
+    ensures { OnOk result (Wrote out.old (spec.between_marks brackets first.now values.now) out.new) }
 {
     match first {
-        None => put_arguments(alloc, out, values),
-        Some(declared) => put_type_and_more(alloc, out, declared, values),
+        None => put_arguments(alloc, out, brackets, values),
+        Some(declared) => put_type_and_more(alloc, out, brackets, declared, values),
     }
 }
 
-fn put_callee(alloc: Global, out: &mut Writer, callee: &Callee) -> Result<(), Memory>
-    ensures { OnOk result (Wrote out.old (spec.callee_marks callee.now) out.new) }
+fn put_callee(alloc: Global, out: &mut Writer, brackets: Brackets, callee: &Callee) -> Result<(), Memory>
+    ensures { OnOk result (Wrote out.old (spec.callee_marks brackets callee.now) out.new) }
 {
     match callee {
-        Callee::Value(value) => put_value(alloc, out, Place::BehindPrefix, value),
+        Callee::Value(value) => put_value(alloc, out, brackets, Place::BehindPrefix, value),
         Callee::Row(name) => out.token(alloc, Piece::Name(name.text.as_slice())),
     }
 }
 
 /// Writes a call.
 #[tactic(auto, using(crate::proofs::MarkLemmas::put_append))]
-pub fn put_call(alloc: Global, out: &mut Writer, call: &Call) -> Result<(), Memory>
-    ensures { OnOk result (Wrote out.old (spec.call_marks call.now) out.new) }
+pub fn put_call(alloc: Global, out: &mut Writer, brackets: Brackets, call: &Call) -> Result<(), Memory>
+    ensures { OnOk result (Wrote out.old (spec.call_marks brackets call.now) out.new) }
 {
-    put_callee(alloc, out, &call.callee)?;
+    put_callee(alloc, out, brackets, &call.callee)?;
     out.space()?;
     out.token(alloc, Piece::Sign(Sign::OpenParen))?;
-    put_between(alloc, out, &call.type_argument, call.arguments.as_slice())?;
+    put_between(alloc, out, brackets, &call.type_argument, call.arguments.as_slice())?;
     out.token(alloc, Piece::Sign(Sign::CloseParen))
 }

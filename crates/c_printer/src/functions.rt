@@ -4,6 +4,7 @@ ghost use Rattle.std.specs.Prelude.{◌≡◌, ◌∷◌, ◌++◌, OnOk};
 ghost use Rattle.c_printer.specs.Marks.{Wrote};
 ghost use Rattle.c_printer.specs.PutItems as spec;
 
+use crate::grade::Brackets;
 use crate::calls::put_declared;
 use crate::output::Writer;
 use crate::piece::Piece;
@@ -162,10 +163,10 @@ pub fn put_function_type(
 
 /// Writes a function, its body from the next line on.
 #[tactic(auto, using(crate::proofs::MarkLemmas::put_append))]
-pub fn put_function(alloc: Global, out: &mut Writer, function: &Function) -> Result<(), Memory>
-    ensures { OnOk result (Wrote out.old (spec.function_marks function.now) out.new) }
+pub fn put_function(alloc: Global, out: &mut Writer, brackets: Brackets, function: &Function) -> Result<(), Memory>
+    ensures { OnOk result (Wrote out.old (spec.function_marks brackets function.now) out.new) }
 {
     put_signature(alloc, out, &function.signature)?;
     out.line(0)?;
-    put_block(alloc, out, 0, &function.body)
+    put_block(alloc, out, brackets, 0, &function.body)
 }

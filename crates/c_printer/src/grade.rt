@@ -109,9 +109,21 @@ fn is_unclear(place: Place, grade: Grade) -> bool
     }
 }
 
+/// Which brackets are written.
+#[derive(Clone, Copy)]
+pub enum Brackets {
+    /// Those that the grammar needs, and those that a C compiler asks for.
+    Clear,
+    /// Those that the grammar needs.
+    Needed,
+}
+
 /// Whether a value stands at a place without brackets.
-pub fn stands(place: Place, grade: Grade) -> bool
-    ensures { result ≡ spec.stands place grade }
+pub fn stands(brackets: Brackets, place: Place, grade: Grade) -> bool
+    ensures { result ≡ spec.stands brackets place grade }
 {
-    binds(place, grade) && !is_unclear(place, grade)
+    match brackets {
+        Brackets::Clear => binds(place, grade) && !is_unclear(place, grade),
+        Brackets::Needed => binds(place, grade),
+    }
 }

@@ -5,7 +5,7 @@ ghost use Rattle.c_printer.specs.Marks.{Wrote};
 ghost use Rattle.c_printer.specs.PutItems as spec;
 
 use crate::functions::{put_function, put_function_type, put_named, put_prototype};
-use crate::grade::Place;
+use crate::grade::{Brackets, Place};
 use crate::group::Group;
 use crate::includes::put_include;
 use crate::layouts::{put_enum, put_fields, put_struct_type};
@@ -18,14 +18,14 @@ use std::alloc::Global;
 use vg_base::Memory;
 
 #[tactic(auto, using(crate::proofs::MarkLemmas::put_append))]
-fn put_variable(alloc: Global, out: &mut Writer, variable: &StaticVariable) -> Result<(), Memory>
-    ensures { OnOk result (Wrote out.old (spec.variable_marks variable.now) out.new) }
+fn put_variable(alloc: Global, out: &mut Writer, brackets: Brackets, variable: &StaticVariable) -> Result<(), Memory>
+    ensures { OnOk result (Wrote out.old (spec.variable_marks brackets variable.now) out.new) }
 {
     out.token(alloc, Piece::Keyword(Keyword::Static))?;
     out.space()?;
     put_named(alloc, out, &variable.declared, &variable.name)?;
     put_sign(alloc, out, Sign::Assign)?;
-    put_value(alloc, out, Place::Anywhere, &variable.value)?;
+    put_value(alloc, out, brackets, Place::Anywhere, &variable.value)?;
     out.token(alloc, Piece::Sign(Sign::Semicolon))
 }
 
@@ -93,8 +93,8 @@ fn put_interface(alloc: Global, out: &mut Writer, table: &InterfaceTable) -> Res
     put_table(alloc, out, &table.init)
 }
 
-fn put_item(alloc: Global, out: &mut Writer, item: &Item) -> Result<(), Memory>
-    ensures { OnOk result (Wrote out.old (spec.item_marks item.now) out.new) }
+fn put_item(alloc: Global, out: &mut Writer, brackets: Brackets, item: &Item) -> Result<(), Memory>
+    ensures { OnOk result (Wrote out.old (spec.item_marks brackets item.now) out.new) }
 {
     match item {
         Item::Include(file) => put_include(alloc, out, file),
@@ -103,9 +103,9 @@ fn put_item(alloc: Global, out: &mut Writer, item: &Item) -> Result<(), Memory>
         Item::Enumeration(enumeration) => put_enum(alloc, out, enumeration),
         Item::FunctionType(signature) => put_function_type(alloc, out, signature),
         Item::Prototype(signature) => put_prototype(alloc, out, signature),
-        Item::Variable(variable) => put_variable(alloc, out, variable),
+        Item::Variable(variable) => put_variable(alloc, out, brackets, variable),
         Item::InterfaceTable(table) => put_interface(alloc, out, table),
-        Item::Function(function) => put_function(alloc, out, function),
+        Item::Function(function) => put_function(alloc, out, brackets, function),
     }
 }
 
@@ -152,21 +152,22 @@ fn put_between(out: &mut Writer, before: Option<Group>, group: Group) -> Result<
 fn put_next_item(
     alloc: Global,
     out: &mut Writer,
+    brackets: Brackets,
     before: Option<Group>,
     item: &Item,
 ) -> Result<(), Memory>
-    ensures { OnOk result (Wrote out.old (spec.next_item_marks before item.now) out.new) }
+    ensures { OnOk result (Wrote out.old (spec.next_item_marks brackets before item.now) out.new) }
 {
     put_between(out, before, group_of(item))?;
-    put_item(alloc, out, item)
+    put_item(alloc, out, brackets, item)
 }
 
-fn put_items(alloc: Global, out: &mut Writer, items: &[Item]) -> Result<(), Memory>
-    ensures { OnOk result (Wrote out.old (spec.items_marks None items.now) out.new) }
+fn put_items(alloc: Global, out: &mut Writer, brackets: Brackets, items: &[Item]) -> Result<(), Memory>
+    ensures { OnOk result (Wrote out.old (spec.items_marks brackets None items.now) out.new) }
 {
     let mut before = None;
     for item in items {
-        put_next_item(alloc, out, before, item)?;
+        put_next_item(alloc, out, brackets, before, item)?;
         before = Some(group_of(item));
     }
     Ok(())
@@ -174,9 +175,9 @@ fn put_items(alloc: Global, out: &mut Writer, items: &[Item]) -> Result<(), Memo
 
 /// Writes a unit.
 #[tactic(auto, using(crate::proofs::MarkLemmas::put_append))]
-pub fn put_unit(alloc: Global, out: &mut Writer, unit: &Unit) -> Result<(), Memory>
-    ensures { OnOk result (Wrote out.old (spec.unit_marks unit.now) out.new) }
+pub fn put_unit(alloc: Global, out: &mut Writer, brackets: Brackets, unit: &Unit) -> Result<(), Memory>
+    ensures { OnOk result (Wrote out.old (spec.unit_marks brackets unit.now) out.new) }
 {
-    put_items(alloc, out, unit.items.as_slice())?;
+    put_items(alloc, out, brackets, unit.items.as_slice())?;
     out.line(0)
 }

@@ -25,7 +25,7 @@ mod value_tests;
 mod values;
 mod writer;
 
-pub use grade::Place;
+pub use grade::{Brackets, Place};
 pub use items::put_unit;
 pub use laws::{
     blocks_are_read, pieces_read_back, places_do_not_matter, tokens_are_read,

@@ -3,6 +3,7 @@
 ghost use Rattle.std.specs.Prelude.{IfOk};
 ghost use Rattle.c_printer.specs.Printed.{CanBePrinted, IsTextOf};
 
+use crate::grade::Brackets;
 use crate::items::put_unit;
 use crate::laws::tokens_are_read;
 use crate::output::Writer;
@@ -18,6 +19,6 @@ pub fn print(alloc: Global, unit: &Unit) -> Result<Vec<u8>, Memory>
     tokens_are_read();
     tokens_cover();
     let mut out = Writer::new(alloc);
-    put_unit(alloc, &mut out, unit)?;
+    put_unit(alloc, &mut out, Brackets::Clear, unit)?;
     Ok(out.into_bytes())
 }

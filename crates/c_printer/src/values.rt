@@ -2,10 +2,11 @@
 
 ghost use Rattle.std.specs.Prelude.{◌≡◌, map, OnOk};
 ghost use Rattle.c_tree.specs.Kinds.{level_of};
+ghost use Rattle.c_printer.specs.declared.grade.Brackets.{Brackets};
 ghost use Rattle.c_printer.specs.Marks.{Wrote, in_row};
 ghost use Rattle.c_printer.specs.PutValues as spec;
 
-use crate::grade::{Grade, Place, stands};
+use crate::grade::{Brackets, Grade, Place, stands};
 use crate::output::Writer;
 use crate::piece::Piece;
 use crate::types::put_type;
@@ -146,7 +147,7 @@ fn begins_with_not(operators: &[PrefixOperator]) -> bool
 }
 
 fn chain_level(links: &[Link]) -> Level
-    ensures { result ≡ spec.chain_level (map spec.printed_link links.now) }
+    ensures { (style : Brackets) → result ≡ spec.chain_level (map (spec.printed_link style) links.now) }
 {
     if links.is_empty() {
         Level::Product
@@ -156,7 +157,7 @@ fn chain_level(links: &[Link]) -> Level
 }
 
 fn grade(shape: &Shape) -> Grade
-    ensures { result ≡ (spec.printed_shape shape.now).grade }
+    ensures { (style : Brackets) → result ≡ (spec.printed_shape style shape.now).grade }
 {
     match shape {
         Shape::Prefix(operators, _) => Grade::Prefixing(begins_with_not(operators.as_slice())),
@@ -169,20 +170,20 @@ fn grade(shape: &Shape) -> Grade
 
 /// Writes a value, in brackets where its place asks for them.
 #[cycle(value)]
-pub fn put_value(alloc: Global, out: &mut Writer, place: Place, value: &Expr) -> Result<(), Memory>
-    ensures { OnOk result (Wrote out.old (spec.placed place (spec.printed value.now)) out.new) }
+pub fn put_value(alloc: Global, out: &mut Writer, brackets: Brackets, place: Place, value: &Expr) -> Result<(), Memory>
+    ensures { OnOk result (Wrote out.old (spec.placed brackets place (spec.printed brackets value.now)) out.new) }
 {
-    if stands(place, grade(&value.shape)) {
-        return put_shape(alloc, out, &value.shape);
+    if stands(brackets, place, grade(&value.shape)) {
+        return put_shape(alloc, out, brackets, &value.shape);
     }
     out.token(alloc, Piece::Sign(Sign::OpenParen))?;
-    put_shape(alloc, out, &value.shape)?;
+    put_shape(alloc, out, brackets, &value.shape)?;
     out.token(alloc, Piece::Sign(Sign::CloseParen))
 }
 
 #[cycle(value)]
-fn put_shape(alloc: Global, out: &mut Writer, shape: &Shape) -> Result<(), Memory>
-    ensures { OnOk result (Wrote out.old (spec.printed_shape shape.now).marks out.new) }
+fn put_shape(alloc: Global, out: &mut Writer, brackets: Brackets, shape: &Shape) -> Result<(), Memory>
+    ensures { OnOk result (Wrote out.old (spec.printed_shape brackets shape.now).marks out.new) }
 {
     match shape {
         Shape::Number(number) => out.token(alloc, Piece::Number(number.value, number.kind)),
@@ -196,30 +197,30 @@ fn put_shape(alloc: Global, out: &mut Writer, shape: &Shape) -> Result<(), Memor
         Shape::Offset(declared, field, _) => put_offset(alloc, out, declared, field),
         Shape::Prefix(operators, operand) => {
             put_prefixes(alloc, out, operators.as_slice())?;
-            put_value(alloc, out, Place::BehindPrefix, operand.get())
+            put_value(alloc, out, brackets, Place::BehindPrefix, operand.get())
         }
         Shape::Postfix(value, suffixes) => {
-            put_value(alloc, out, Place::BeforeSuffix, value.get())?;
-            put_suffixes(alloc, out, suffixes.as_slice())
+            put_value(alloc, out, brackets, Place::BeforeSuffix, value.get())?;
+            put_suffixes(alloc, out, brackets, suffixes.as_slice())
         }
         Shape::Chain(first, links) => {
             let level = chain_level(links.as_slice());
-            put_value(alloc, out, Place::Operand(level), first.get())?;
-            put_links(alloc, out, links.as_slice())
+            put_value(alloc, out, brackets, Place::Operand(level), first.get())?;
+            put_links(alloc, out, brackets, links.as_slice())
         }
         Shape::Conditional(choices, last) => {
-            put_choices(alloc, out, choices.as_slice())?;
-            put_value(alloc, out, Place::Chosen, last.get())
+            put_choices(alloc, out, brackets, choices.as_slice())?;
+            put_value(alloc, out, brackets, Place::Chosen, last.get())
         }
     }
 }
 
 #[cycle(value)]
-fn put_suffixes(alloc: Global, out: &mut Writer, suffixes: &[Suffix]) -> Result<(), Memory>
-    ensures { OnOk result (Wrote out.old (in_row (map spec.suffix_marks suffixes.now)) out.new) }
+fn put_suffixes(alloc: Global, out: &mut Writer, brackets: Brackets, suffixes: &[Suffix]) -> Result<(), Memory>
+    ensures { OnOk result (Wrote out.old (in_row (map (spec.suffix_marks brackets) suffixes.now)) out.new) }
 {
     for suffix in suffixes {
-        put_suffix(alloc, out, suffix)?;
+        put_suffix(alloc, out, brackets, suffix)?;
     }
     Ok(())
 }
@@ -232,31 +233,31 @@ fn put_field(alloc: Global, out: &mut Writer, sign: Sign, field: &Name) -> Resul
 }
 
 #[cycle(value)]
-fn put_index(alloc: Global, out: &mut Writer, index: &Expr) -> Result<(), Memory>
-    ensures { OnOk result (Wrote out.old (spec.index_marks (spec.printed index.now)) out.new) }
+fn put_index(alloc: Global, out: &mut Writer, brackets: Brackets, index: &Expr) -> Result<(), Memory>
+    ensures { OnOk result (Wrote out.old (spec.index_marks brackets (spec.printed brackets index.now)) out.new) }
 {
     out.token(alloc, Piece::Sign(Sign::OpenBracket))?;
-    put_value(alloc, out, Place::Anywhere, index)?;
+    put_value(alloc, out, brackets, Place::Anywhere, index)?;
     out.token(alloc, Piece::Sign(Sign::CloseBracket))
 }
 
 #[cycle(value)]
-fn put_suffix(alloc: Global, out: &mut Writer, suffix: &Suffix) -> Result<(), Memory>
-    ensures { OnOk result (Wrote out.old (spec.suffix_marks suffix.now) out.new) }
+fn put_suffix(alloc: Global, out: &mut Writer, brackets: Brackets, suffix: &Suffix) -> Result<(), Memory>
+    ensures { OnOk result (Wrote out.old (spec.suffix_marks brackets suffix.now) out.new) }
 {
     match suffix {
         Suffix::Field(field) => put_field(alloc, out, Sign::Dot, field),
         Suffix::Arrow(field) => put_field(alloc, out, Sign::Arrow, field),
-        Suffix::Index(index, _) => put_index(alloc, out, index),
+        Suffix::Index(index, _) => put_index(alloc, out, brackets, index),
     }
 }
 
 #[cycle(value)]
-fn put_links(alloc: Global, out: &mut Writer, links: &[Link]) -> Result<(), Memory>
-    ensures { OnOk result (Wrote out.old (spec.link_marks (map spec.printed_link links.now)) out.new) }
+fn put_links(alloc: Global, out: &mut Writer, brackets: Brackets, links: &[Link]) -> Result<(), Memory>
+    ensures { OnOk result (Wrote out.old (spec.link_marks (map (spec.printed_link brackets) links.now)) out.new) }
 {
     for link in links {
-        put_link(alloc, out, link)?;
+        put_link(alloc, out, brackets, link)?;
     }
     Ok(())
 }
@@ -271,34 +272,35 @@ pub fn put_sign(alloc: Global, out: &mut Writer, sign: Sign) -> Result<(), Memor
 }
 
 #[cycle(value)]
-fn put_link(alloc: Global, out: &mut Writer, link: &Link) -> Result<(), Memory>
-    ensures { OnOk result (Wrote out.old (spec.printed_link link.now).marks out.new) }
+fn put_link(alloc: Global, out: &mut Writer, brackets: Brackets, link: &Link) -> Result<(), Memory>
+    ensures { OnOk result (Wrote out.old (spec.printed_link brackets link.now).marks out.new) }
 {
     put_sign(alloc, out, sign_of(link.operator))?;
     put_value(
         alloc,
         out,
+        brackets,
         Place::Operand(level_of(link.operator)),
         &link.operand,
     )
 }
 
 #[cycle(value)]
-fn put_choices(alloc: Global, out: &mut Writer, choices: &[Choice]) -> Result<(), Memory>
-    ensures { OnOk result (Wrote out.old (in_row (map spec.choice_marks choices.now)) out.new) }
+fn put_choices(alloc: Global, out: &mut Writer, brackets: Brackets, choices: &[Choice]) -> Result<(), Memory>
+    ensures { OnOk result (Wrote out.old (in_row (map (spec.choice_marks brackets) choices.now)) out.new) }
 {
     for choice in choices {
-        put_choice(alloc, out, choice)?;
+        put_choice(alloc, out, brackets, choice)?;
     }
     Ok(())
 }
 
 #[cycle(value)]
-fn put_choice(alloc: Global, out: &mut Writer, choice: &Choice) -> Result<(), Memory>
-    ensures { OnOk result (Wrote out.old (spec.choice_marks choice.now) out.new) }
+fn put_choice(alloc: Global, out: &mut Writer, brackets: Brackets, choice: &Choice) -> Result<(), Memory>
+    ensures { OnOk result (Wrote out.old (spec.choice_marks brackets choice.now) out.new) }
 {
-    put_value(alloc, out, Place::Chosen, &choice.test)?;
+    put_value(alloc, out, brackets, Place::Chosen, &choice.test)?;
     put_sign(alloc, out, Sign::Question)?;
-    put_value(alloc, out, Place::Anywhere, &choice.yes)?;
+    put_value(alloc, out, brackets, Place::Anywhere, &choice.yes)?;
     put_sign(alloc, out, Sign::Colon)
 }

@@ -2,4 +2,4 @@ use Rattle.c_printer.proofs.StatementReading.{block_read}
 use Rattle.c_printer.proofs.laws.blocks_are_read.Goals as goal
 
 pub returns : goal.returns
-returns c ns n w b r = block_read n r
+returns c style ns n w b r = block_read style n r

@@ -6,4 +6,4 @@ pub returns-clause-types : goal.returns-clause-types
 returns-clause-types c = λ ns anyhow w x r. type_read ns anyhow r
 
 pub returns-clause-values : goal.returns-clause-values
-returns-clause-values c = λ ns constant w e r. value_read ns constant r
+returns-clause-values c = λ style ns constant w e r. value_read style ns constant r

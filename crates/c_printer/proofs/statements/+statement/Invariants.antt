@@ -5,4 +5,4 @@ use Rattle.c_printer.specs.PutStatements.{lines, stmt_marks}
 use Rattle.c_printer.proofs.statements.+statement.Given as goal
 
 abbrev pub invariant-put_stmts-loop-stmt : goal.invariant-put_stmts-loop-stmt
-invariant-put_stmts-loop-stmt l = put_marks (seen l.out) (lines l.indent (map stmt_marks (drop l.stmt-index l.stmts))) ≡ put_marks (seen l.initial.out) (lines l.indent (map stmt_marks l.stmts))
+invariant-put_stmts-loop-stmt l = put_marks (seen l.out) (lines l.indent (map (stmt_marks l.brackets) (drop l.stmt-index l.stmts))) ≡ put_marks (seen l.initial.out) (lines l.indent (map (stmt_marks l.brackets) l.stmts))
