@@ -25,4 +25,5 @@ mod GivenItems
 mod Nesting
 mod NestingValues
 mod NestingItems
+mod DepthLemmas
 mod UnitReading

@@ -216,7 +216,7 @@ place_rank (Operand l) = suc (rank l)
 place_rank BehindPrefix = 12
 place_rank BeforeSuffix = 13
 
-not_le : (m n : ℕ) → nat_le m n ≡ false → n < m
+pub not_le : (m n : ℕ) → nat_le m n ≡ false → n < m
 not_le m n h = go (nat_lt n m) refl
   where
     go : (b : Bool) → nat_lt n m ≡ b → n < m

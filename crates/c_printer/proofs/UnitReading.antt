@@ -1,5 +1,5 @@
 -- Units that are written are read.
-use Rattle.std.proofs.Common.{◌≡◌, ◌∙◌, refl, sym, ap, ap₂, subst, ℕ, zero, suc, Bool, true, false, cond, not, ◌&&◌, ◌||◌, nat_le, List, [], ◌∷◌, ◌++◌, map, length, drop, ◌≤◌, codes, append_assoc, Option, Some, None, arith}
+use Rattle.std.proofs.Common.{◌≡◌, ◌∙◌, refl, sym, ap, ap₂, subst, ℕ, zero, suc, Bool, true, false, cond, not, ◌&&◌, ◌||◌, nat_le, List, [], ◌∷◌, ◌++◌, map, length, drop, ◌≤◌, codes, append_assoc, Option, Some, None, Result, Ok, Err, IfOk, arith}
 use Rattle.std.proofs.lemmas.Bool.{and_parts}
 use Rattle.c_lexer.specs.declared.token.TokenKind.TheVariants as k
 use Rattle.c_lexer.specs.Written.{IsWord}
@@ -8,7 +8,7 @@ use Rattle.c_tree.specs.declared.unit.Include.{Include}
 use Rattle.c_tree.specs.declared.unit.Include.TheVariants as include
 use Rattle.c_tree.specs.declared.unit.Item.{Item}
 use Rattle.c_tree.specs.declared.unit.Item.TheVariants as item
-use Rattle.c_tree.specs.Words.{Token, Word, plain, words, words_behind, Other, BeginsLine, Open, with_terminal, is_shallow}
+use Rattle.c_tree.specs.Words.{Token, Word, plain, words, words_behind, Other, BeginsLine, Open, with_sign, with_terminal, is_shallow}
 use Rattle.c_tree.specs.Names.{Names, with_item, library_names}
 use Rattle.c_tree.specs.Items as it
 use Rattle.c_tree.specs.Items.{ReadsItem, ReadsItems, no_item, more_items, is_include, ends_line}
@@ -18,11 +18,12 @@ use Rattle.c_lexer.specs.declared.token.BadToken.{BadToken}
 use Rattle.c_lexer.specs.Laws.{Covers}
 use Rattle.c_lexer.specs.Tokens.{Left, Lexeme, Tokens, all_of}
 use Rattle.c_printer.specs.declared.grade.Brackets.{Brackets}
+use Rattle.c_printer.specs.declared.grade.Brackets.TheVariants.{Needed}
+use Rattle.c_printer.specs.Depth.{IsShallowText}
 use Rattle.c_printer.specs.declared.group.Group.{Group}
 use Rattle.c_printer.specs.Alike.{Alike, none, one}
-use Rattle.c_printer.specs.Marks.{Mark, Marks, Name, AKeyword, AConstant, Number, Chars, Character, ASign, Space, Line, word, put_marks}
-use Rattle.c_tree.specs.Answers.{CReads}
-use Rattle.c_printer.specs.Printed.{IsTextOf}
+use Rattle.c_printer.specs.Marks.{Mark, Marks, Name, AKeyword, AConstant, Number, Chars, Character, ASign, Space, Line, word, put_mark, put_marks}
+use Rattle.c_printer.specs.Printed.{CanBePrinted, IsTextOf}
 use Rattle.c_printer.proofs.Inner.{IsInner, AreInner, IsFile, IsWritableItem, AreWritableItems}
 use Rattle.c_printer.specs.Laws.{TokensAreRead}
 use Rattle.c_printer.specs.Put.{AreBytes}
@@ -32,6 +33,7 @@ use Rattle.c_printer.specs.Writable.{IsWritable, AreWritable, lexemes}
 use Rattle.c_printer.proofs.CleanUnits.{sound_alike}
 use Rattle.c_printer.proofs.GivenItems.{items_inner}
 use Rattle.c_printer.proofs.TokensOfBytes.{bytes_given}
+use Rattle.c_printer.proofs.NestingItems.{needed_nests}
 use Rattle.c_printer.proofs.Nesting.{opens, shallow_append}
 use Rattle.c_printer.proofs.TypeReading.{word_append}
 use Rattle.c_printer.proofs.ItemReading.{is_code, item_here, item_scope_bare, include_bare}
@@ -258,22 +260,49 @@ unit_writable style is h = writable_append (items_marks style None is) (Line 0 �
 abbrev pub TokensCover : Type 0
 TokensCover = (l : Left) (ts : List Lexeme) (o : Option BadToken) → l.at ≤ length l.bytes → Tokens l ts o → Covers l.at (drop l.at l.bytes) ts o
 
+-- the brackets of what is written are those of its tokens
+marks_shallow : (o : Open) (t : Text) (f : Bool) (ms : Marks) → is_shallow o (map plain (lexemes t f ms)) ≡ is_shallow o (word ms)
+marks_shallow o t f [] = refl
+marks_shallow o t f (Space ∷ ms) = marks_shallow o (put_mark t Space) f ms
+marks_shallow o t f (Line n ∷ ms) = marks_shallow o (put_mark t (Line n)) true ms
+marks_shallow o t f (Name x ∷ ms) = ap (λ b. nat_le (length o) 64 && b) (marks_shallow o (put_mark t (Name x)) false ms)
+marks_shallow o t f (AKeyword x ∷ ms) = ap (λ b. nat_le (length o) 64 && b) (marks_shallow o (put_mark t (AKeyword x)) false ms)
+marks_shallow o t f (AConstant x ∷ ms) = ap (λ b. nat_le (length o) 64 && b) (marks_shallow o (put_mark t (AConstant x)) false ms)
+marks_shallow o t f (Number n y ∷ ms) = ap (λ b. nat_le (length o) 64 && b) (marks_shallow o (put_mark t (Number n y)) false ms)
+marks_shallow o t f (Chars x ∷ ms) = ap (λ b. nat_le (length o) 64 && b) (marks_shallow o (put_mark t (Chars x)) false ms)
+marks_shallow o t f (Character x ∷ ms) = ap (λ b. nat_le (length o) 64 && b) (marks_shallow o (put_mark t (Character x)) false ms)
+marks_shallow o t f (ASign x ∷ ms) = ap (λ b. nat_le (length (with_sign o x)) 64 && b) (marks_shallow (with_sign o x) (put_mark t (ASign x)) false ms)
+
 -- what is written of a unit that bytes are read as is read, where it does not nest too deep
-pub text_read : (style : Brackets) → TokensAreRead → TokensCover → (u : CUnit) (bytes source : List ℕ) → bytes ≡ (put_marks empty (unit_marks style u)).bytes
-    → is_shallow [] (word (unit_marks style u)) ≡ true → AreBytes source → CReads source u → IsTextOf u bytes
-text_read style lexed covers u bytes source e nests small h =
-    let was = h.reads.items in
-    let inner = items_inner style was (bytes_given source h.tokens None (covers (all_of source) h.tokens None (omega arith) h.lexed) small) in
+text_read : (style : Brackets) → TokensAreRead → TokensCover → (u : CUnit) (bytes : List ℕ) → bytes ≡ (put_marks empty (unit_marks style u)).bytes
+    → (Tokens (all_of bytes) (lexemes empty true (unit_marks style u)) None → is_shallow [] (word (unit_marks style u)) ≡ true) → CanBePrinted u → IsTextOf u bytes
+text_read style lexed covers u bytes e nests h =
+    let was = h.reads.reads.items in
+    let inner = items_inner style was (bytes_given h.bytes h.reads.tokens None (covers (all_of h.bytes) h.reads.tokens None (omega arith) h.reads.lexed) h.are_bytes) in
     let m = all_items_read style u.items library_names was inner in
     let read : CUnit = record { items = m.tree } in
     let same : bare read ≡ bare u = λ i. record { items = m.same i } in
+    let tokens : Tokens (all_of bytes) (lexemes empty true (unit_marks style u)) None = subst (λ z. Tokens (all_of z) (lexemes empty true (unit_marks style u)) None) (sym e) (lexed (unit_marks style u) (unit_writable style u.items inner)) in
     record {
       read = read;
       reads = record {
         tokens = lexemes empty true (unit_marks style u);
-        lexed = subst (λ z. Tokens (all_of z) (lexemes empty true (unit_marks style u)) None) (sym e) (lexed (unit_marks style u) (unit_writable style u.items inner));
-        reads = record { items = m.reads; shallow = all_items_nest style u.items inner [] nests };
-        sound = sound_alike u read was m.reads same h.sound;
+        lexed = tokens;
+        reads = record { items = m.reads; shallow = all_items_nest style u.items inner [] (nests tokens) };
+        sound = sound_alike u read was m.reads same h.reads.sound;
       };
       same = same;
     }
+
+-- a text in which no more than 64 brackets are open
+pub shallow_read : (style : Brackets) → TokensAreRead → TokensCover → (u : CUnit) (bytes : List ℕ) → bytes ≡ (put_marks empty (unit_marks style u)).bytes → IsShallowText bytes → CanBePrinted u → IsTextOf u bytes
+shallow_read style lexed covers u bytes e shallow h = text_read style lexed covers u bytes e (λ ts. sym (marks_shallow [] empty true (unit_marks style u)) ∙ shallow (lexemes empty true (unit_marks style u)) ts) h
+
+-- a text with the brackets that are needed
+pub needed_read : TokensAreRead → TokensCover → (u : CUnit) (bytes : List ℕ) → bytes ≡ (put_marks empty (unit_marks Needed u)).bytes → CanBePrinted u → IsTextOf u bytes
+needed_read lexed covers u bytes e h = text_read Needed lexed covers u bytes e (λ ts. needed_nests h.reads.reads.items h.reads.reads.shallow) h
+
+-- what follows of a text that was written
+pub on_text : {V E : Type 0} {P Q : V → Type 0} (r : Result V E) → IfOk r P → ((x : V) → P x → Q x) → IfOk r Q
+on_text (Ok x) h f = f x h
+on_text (Err e) h f = h

@@ -9,3 +9,4 @@ pub mod Laws
 pub mod PutStatements
 pub mod PutItems
 pub mod Writable
+pub mod Depth

@@ -2,6 +2,7 @@
 #![tactic(auto)]
 
 mod calls;
+mod depth;
 mod functions;
 mod grade;
 mod group;

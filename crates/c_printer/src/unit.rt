@@ -1,8 +1,13 @@
 // The text of a unit.
 
-ghost use Rattle.std.specs.Prelude.{IfOk};
+ghost use Rattle.std.specs.Prelude.{◌≡◌, IfOk, true};
+ghost use Rattle.c_printer.specs.Depth.{IsShallowText};
+ghost use Rattle.c_printer.specs.Marks.{put_marks};
 ghost use Rattle.c_printer.specs.Printed.{CanBePrinted, IsTextOf};
+ghost use Rattle.c_printer.specs.PutItems.{unit_marks};
+ghost use Rattle.c_printer.specs.Text.{empty};
 
+use crate::depth::is_shallow;
 use crate::grade::Brackets;
 use crate::items::put_unit;
 use crate::laws::tokens_are_read;
@@ -12,13 +17,31 @@ use c_tree::Unit;
 use std::alloc::Global;
 use vg_base::Memory;
 
-/// The text of a unit, one statement a line. It is read as the unit, apart from places.
+fn text_of(alloc: Global, brackets: Brackets, unit: &Unit) -> Result<Vec<u8>, Memory>
+    ensures { IfOk result (λ text. text.items ≡ (put_marks empty (unit_marks brackets unit.now)).bytes) }
+{
+    let mut out = Writer::new(alloc);
+    put_unit(alloc, &mut out, brackets, unit)?;
+    Ok(out.into_bytes())
+}
+
+// Whether a text is short enough to be read, and nests no deeper than 64 brackets.
+fn can_be_read(text: &[u8]) -> bool
+    ensures { result ≡ true → IsShallowText text.now }
+{
+    text.len() < 1 << 32 && is_shallow(text)
+}
+
+/// The text of a unit, one statement a line. It is read as the unit, apart from places. Brackets that the grammar does not need
+/// are left out where the text would nest too deep with them.
 pub fn print(alloc: Global, unit: &Unit) -> Result<Vec<u8>, Memory>
     ensures { IfOk result (λ text. CanBePrinted unit.now → IsTextOf unit.now text.items) }
 {
     tokens_are_read();
     tokens_cover();
-    let mut out = Writer::new(alloc);
-    put_unit(alloc, &mut out, Brackets::Clear, unit)?;
-    Ok(out.into_bytes())
+    let clear = text_of(alloc, Brackets::Clear, unit)?;
+    if can_be_read(&clear) {
+        return Ok(clear);
+    }
+    text_of(alloc, Brackets::Needed, unit)
 }

@@ -1,11 +1,12 @@
-use Rattle.std.proofs.Common.{◌∙◌, ap}
+use Rattle.std.proofs.Common.{refl, subst}
+use Rattle.c_printer.specs.Depth.{IsShallowText}
 use Rattle.c_printer.specs.declared.grade.Brackets.TheVariants.{Clear}
-use Rattle.c_printer.specs.Text.{Text}
-use Rattle.c_printer.specs.Marks.{put_marks}
-use Rattle.c_printer.specs.PutItems.{unit_marks}
-use Rattle.c_printer.proofs.UnitReading.{text_read}
-use Rattle.c_printer.proofs.NestingItems.{needed_nests}
+use Rattle.c_printer.proofs.UnitReading.{shallow_read, needed_read, on_text}
 use Rattle.c_printer.proofs.unit.print.Goals as goal
 
+pub returns-then-can_be_read : goal.returns-then-can_be_read
+returns-then-can_be_read c = shallow_read Clear c.tokens_are_read.ensures c.tokens_cover.ensures.covers c.args.unit.now c.in_ok-clear.clear.items c.in_ok-clear.ensures
+    (subst IsShallowText c.deref.ensures.value (c.if-can_be_read.ensures refl))
+
 pub returns : goal.returns
-returns c h = text_read Clear c.tokens_are_read.ensures c.tokens_cover.ensures.covers c.args.unit.now c.into_bytes.result.items h.bytes (c.into_bytes.ensures ∙ ap (λ (t : Text). t.bytes) (c.in_ok-put_unit.ensures ∙ ap (λ (t : Text). put_marks t (unit_marks Clear c.args.unit.now)) c.new-out.ensures)) h.nests h.are_bytes h.reads
+returns c = on_text c.text_of-2.result c.text_of-2.ensures (λ text e. needed_read c.tokens_are_read.ensures c.tokens_cover.ensures.covers c.args.unit.now text.items e)
