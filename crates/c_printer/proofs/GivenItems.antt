@@ -69,9 +69,17 @@ place_inner style {ns} (place_is {a} r h) g = operand_inner style ns false level
 cases_inner : (d : ℕ) {w : Word} {cs : List Case} → ReadsCases w cs → AreGiven w → AreInner (cases_marks d cs)
 cases_inner d no_case g = tt
 cases_inner d (more_cases {t} s n {u} {v = z} {w} {x} {cs} i r j h rest) g =
-    let p = given_append (t ∷ u ++ s ∷ z) w g in let q = given_append (t ∷ u) (s ∷ z) p.0 in
-    (tt, (tt, (tt, inner_append (number_marks x ++ ASign sign.Colon ∷ Space ∷ goto_marks (name_at n)) (cases_marks d cs)
-    (inner_append (number_marks x) (ASign sign.Colon ∷ Space ∷ goto_marks (name_at n)) (number_inner r q.0.1) (refl, (tt, goto_inner h q.1.1))) (cases_inner d rest p.1))))
+    let p = given_append (t ∷ u ++ s ∷ z) w g in let q = given_append (t ∷ u) (s ∷ z) p.0 in (
+      tt,
+      (
+        tt,
+        (
+          tt,
+          inner_append (number_marks x ++ ASign sign.Colon ∷ Space ∷ goto_marks (name_at n)) (cases_marks d cs)
+              (inner_append (number_marks x) (ASign sign.Colon ∷ Space ∷ goto_marks (name_at n)) (number_inner r q.0.1) (refl, (tt, goto_inner h q.1.1))) (cases_inner d rest p.1),
+        ),
+      ),
+    )
 
 -- 2. Calls
 
@@ -147,9 +155,11 @@ mutual
   block_inner : (style : Brackets) → {ns : Names} {w : Word} {b : Block} (n : ℕ) → ReadsBlock ns w b → AreGiven w → AreInner (block_marks style b n)
   block_inner style n (st.block_is {t} s {u} {w} {ls} {ss} i rl rs j) g =
       let p = given_append (t ∷ u ++ w) (s ∷ []) g in let q = given_append (t ∷ u) w p.0 in
-      subst (λ (m : Indented). AreInner (m n)) (sym (block_written style ls ss (join (at t) (at s))))
-      (refl, inner_append (locals_marks (deeper n) ls ++ lines (deeper n) (map (stmt_marks style) ss)) (close_marks n)
-      (inner_append (locals_marks (deeper n) ls) (lines (deeper n) (map (stmt_marks style) ss)) (locals_inner (deeper n) rl q.0.1) (stmts_inner style (deeper n) rs q.1)) (close_inner n))
+      subst (λ (m : Indented). AreInner (m n)) (sym (block_written style ls ss (join (at t) (at s)))) (
+        refl,
+        inner_append (locals_marks (deeper n) ls ++ lines (deeper n) (map (stmt_marks style) ss)) (close_marks n)
+            (inner_append (locals_marks (deeper n) ls) (lines (deeper n) (map (stmt_marks style) ss)) (locals_inner (deeper n) rl q.0.1) (stmts_inner style (deeper n) rs q.1)) (close_inner n),
+      )
 
 -- 4. Parts of items
 
@@ -179,9 +189,11 @@ more_parameters_inner (more_parameters {u} {w} {p = x} {ps} i r rest) g =
 parameters_inner : {ns : Names} {w : Word} {ps : List Parameter} → ReadsParameters ns w ps → AreGiven w → AreInner (parameters_marks ps)
 parameters_inner (none_taken i j h) g = (refl, (tt, (refl, tt)))
 parameters_inner (some_taken {t} s {u} {w} {p = x} {ps} i r rest j) g =
-    let p = given_append (t ∷ u ++ w) (s ∷ []) g in let q = given_append (t ∷ u) w p.0 in
-    (refl, inner_append (parameter_marks x ++ more_parameters_marks ps) (ASign sign.CloseParen ∷ [])
-    (inner_append (parameter_marks x) (more_parameters_marks ps) (parameter_inner r q.0.1) (more_parameters_inner rest q.1)) (refl, tt))
+    let p = given_append (t ∷ u ++ w) (s ∷ []) g in let q = given_append (t ∷ u) w p.0 in (
+      refl,
+      inner_append (parameter_marks x ++ more_parameters_marks ps) (ASign sign.CloseParen ∷ [])
+          (inner_append (parameter_marks x) (more_parameters_marks ps) (parameter_inner r q.0.1) (more_parameters_inner rest q.1)) (refl, tt),
+    )
 
 static_inner : (b : Bool) → AreInner (static_marks b)
 static_inner true = (tt, (tt, tt))
@@ -211,16 +223,26 @@ item_inner style (it.enum_is {t} {s} {l} r n e {u} {w} {m} {ms} a b c rm rms d f
     (inner_append enum_start_marks (members_marks (m ∷ ms)) (tt, (tt, (tt, (tt, (refl, tt))))) (inner_append (member_line m) (more_members_marks ms) (member_inner rm q.0.1.1.1) (more_members_inner rms q.1)))
     (tt, (refl, (tt, (a_name n f p.1.1.0, (refl, tt)))))
 item_inner style (it.function_type {t} o s n c e {u} {w} {r} {ps} a rc b d f h rp k) g =
-    let p = given_append (t ∷ u ++ o ∷ s ∷ n ∷ c ∷ w) (e ∷ []) g in let q = given_append (t ∷ u) (o ∷ s ∷ n ∷ c ∷ w) p.0 in
-    (tt, (tt, inner_append (declared_marks r ++ taken_by_pointer (name_at n) ps) (ASign sign.Semicolon ∷ [])
-    (inner_append (declared_marks r) (taken_by_pointer (name_at n) ps) (declared_inner r (type_inner rc q.0.1)) (refl, (refl, (a_name n f q.1.1.1.0, (refl, (tt, parameters_inner rp q.1.1.1.1.1))))))
-    (refl, tt)))
+    let p = given_append (t ∷ u ++ o ∷ s ∷ n ∷ c ∷ w) (e ∷ []) g in let q = given_append (t ∷ u) (o ∷ s ∷ n ∷ c ∷ w) p.0 in (
+      tt,
+      (
+        tt,
+        inner_append (declared_marks r ++ taken_by_pointer (name_at n) ps) (ASign sign.Semicolon ∷ [])
+            (inner_append (declared_marks r) (taken_by_pointer (name_at n) ps) (declared_inner r (type_inner rc q.0.1)) (refl, (refl, (a_name n f q.1.1.1.0, (refl, (tt, parameters_inner rp q.1.1.1.1.1))))))
+            (refl, tt),
+      ),
+    )
 item_inner style (it.prototype e {w} {s} rs a) g = let p = given_append w (e ∷ []) g in inner_append (signature_marks s) (ASign sign.Semicolon ∷ []) (signature_inner rs p.0) (refl, tt)
 item_inner style {ns} (it.static_variable {t} n a e {u} {w} {c} {x} b rc o d f rx h) g =
-    let p = given_append (t ∷ u ++ n ∷ a ∷ w) (e ∷ []) g in let q = given_append (t ∷ u) (n ∷ a ∷ w) p.0 in
-    (tt, (tt, inner_append (declared_marks c ++ set_marks style (name_at n) x) (ASign sign.Semicolon ∷ [])
-    (inner_append (declared_marks c) (set_marks style (name_at n) x) (declared_inner c (type_inner rc q.0.1)) (a_name n d q.1.0, (tt, (refl, (tt, value_inner style ns true rx q.1.1.1)))))
-    (refl, tt)))
+    let p = given_append (t ∷ u ++ n ∷ a ∷ w) (e ∷ []) g in let q = given_append (t ∷ u) (n ∷ a ∷ w) p.0 in (
+      tt,
+      (
+        tt,
+        inner_append (declared_marks c ++ set_marks style (name_at n) x) (ASign sign.Semicolon ∷ [])
+            (inner_append (declared_marks c) (set_marks style (name_at n) x) (declared_inner c (type_inner rc q.0.1)) (a_name n d q.1.0, (tt, (refl, (tt, value_inner style ns true rx q.1.1.1)))))
+            (refl, tt),
+      ),
+    )
 item_inner style (it.interface_table {i = x} {n} {y} {f} i1 i2 i3 i4 i5 i6 i7 i8 i9 j1 j2 j3 j4 j5 j6 j7) g =
     let g3 = g.1.1.1 in let g7 = g3.1.1.1.1 in
     inner_append (interface_type_marks ++ Name n.bytes ∷ spaced sign.Assign) (table_marks (name_at f))

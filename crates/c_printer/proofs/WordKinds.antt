@@ -141,5 +141,6 @@ starting b w = one (b == 97) _ _ (in_a w)
     (one (b == 84) _ _ (in_capital_t w)
     (one (b == 95) _ _ (in_underscore w)
     (one (b == 71) _ _ (behind_g (get_or w 2 0) w) refl)))))))))))))))))))
+
 pub worded : (w : List ℕ) → is_worded (word_kind w) ≡ true
 worded w = starting (get_or w 0 0) w

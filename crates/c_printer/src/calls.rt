@@ -75,7 +75,12 @@ pub fn put_locals(
 }
 
 #[tactic(auto, using(crate::proofs::MarkLemmas::put_append))]
-fn put_next_argument(alloc: Global, out: &mut Writer, brackets: Brackets, value: &Expr) -> Result<(), Memory>
+fn put_next_argument(
+    alloc: Global,
+    out: &mut Writer,
+    brackets: Brackets,
+    value: &Expr,
+) -> Result<(), Memory>
     ensures { OnOk result (Wrote out.old (next_argument_marks brackets value.now) out.new) }
 {
     out.token(alloc, Piece::Sign(Sign::Comma))?;
@@ -83,7 +88,12 @@ fn put_next_argument(alloc: Global, out: &mut Writer, brackets: Brackets, value:
     put_value(alloc, out, brackets, Place::Anywhere, value)
 }
 
-fn put_more_arguments(alloc: Global, out: &mut Writer, brackets: Brackets, values: &[Expr]) -> Result<(), Memory>
+fn put_more_arguments(
+    alloc: Global,
+    out: &mut Writer,
+    brackets: Brackets,
+    values: &[Expr],
+) -> Result<(), Memory>
     ensures { OnOk result (Wrote out.old (more_arguments_marks brackets values.now) out.new) }
 {
     for value in values {
@@ -106,7 +116,12 @@ fn put_first_and_more(
     put_more_arguments(alloc, out, brackets, more)
 }
 
-fn put_arguments(alloc: Global, out: &mut Writer, brackets: Brackets, values: &[Expr]) -> Result<(), Memory>
+fn put_arguments(
+    alloc: Global,
+    out: &mut Writer,
+    brackets: Brackets,
+    values: &[Expr],
+) -> Result<(), Memory>
     ensures { OnOk result (Wrote out.old (arguments_marks brackets values.now) out.new) }
 {
     match values {
@@ -144,7 +159,12 @@ fn put_between(
     }
 }
 
-fn put_callee(alloc: Global, out: &mut Writer, brackets: Brackets, callee: &Callee) -> Result<(), Memory>
+fn put_callee(
+    alloc: Global,
+    out: &mut Writer,
+    brackets: Brackets,
+    callee: &Callee,
+) -> Result<(), Memory>
     ensures { OnOk result (Wrote out.old (spec.callee_marks brackets callee.now) out.new) }
 {
     match callee {
@@ -155,12 +175,23 @@ fn put_callee(alloc: Global, out: &mut Writer, brackets: Brackets, callee: &Call
 
 /// Writes a call.
 #[tactic(auto, using(crate::proofs::MarkLemmas::put_append))]
-pub fn put_call(alloc: Global, out: &mut Writer, brackets: Brackets, call: &Call) -> Result<(), Memory>
+pub fn put_call(
+    alloc: Global,
+    out: &mut Writer,
+    brackets: Brackets,
+    call: &Call,
+) -> Result<(), Memory>
     ensures { OnOk result (Wrote out.old (spec.call_marks brackets call.now) out.new) }
 {
     put_callee(alloc, out, brackets, &call.callee)?;
     out.space()?;
     out.token(alloc, Piece::Sign(Sign::OpenParen))?;
-    put_between(alloc, out, brackets, &call.type_argument, call.arguments.as_slice())?;
+    put_between(
+        alloc,
+        out,
+        brackets,
+        &call.type_argument,
+        call.arguments.as_slice(),
+    )?;
     out.token(alloc, Piece::Sign(Sign::CloseParen))
 }

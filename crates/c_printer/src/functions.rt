@@ -4,8 +4,8 @@ ghost use Rattle.std.specs.Prelude.{◌≡◌, ◌∷◌, ◌++◌, OnOk};
 ghost use Rattle.c_printer.specs.Marks.{Wrote};
 ghost use Rattle.c_printer.specs.PutItems as spec;
 
-use crate::grade::Brackets;
 use crate::calls::put_declared;
+use crate::grade::Brackets;
 use crate::output::Writer;
 use crate::piece::Piece;
 use crate::statements::put_block;
@@ -163,7 +163,12 @@ pub fn put_function_type(
 
 /// Writes a function, its body from the next line on.
 #[tactic(auto, using(crate::proofs::MarkLemmas::put_append))]
-pub fn put_function(alloc: Global, out: &mut Writer, brackets: Brackets, function: &Function) -> Result<(), Memory>
+pub fn put_function(
+    alloc: Global,
+    out: &mut Writer,
+    brackets: Brackets,
+    function: &Function,
+) -> Result<(), Memory>
     ensures { OnOk result (Wrote out.old (spec.function_marks brackets function.now) out.new) }
 {
     put_signature(alloc, out, &function.signature)?;

@@ -18,7 +18,12 @@ use std::alloc::Global;
 use vg_base::Memory;
 
 #[tactic(auto, using(crate::proofs::MarkLemmas::put_append))]
-fn put_variable(alloc: Global, out: &mut Writer, brackets: Brackets, variable: &StaticVariable) -> Result<(), Memory>
+fn put_variable(
+    alloc: Global,
+    out: &mut Writer,
+    brackets: Brackets,
+    variable: &StaticVariable,
+) -> Result<(), Memory>
     ensures { OnOk result (Wrote out.old (spec.variable_marks brackets variable.now) out.new) }
 {
     out.token(alloc, Piece::Keyword(Keyword::Static))?;
@@ -162,7 +167,12 @@ fn put_next_item(
     put_item(alloc, out, brackets, item)
 }
 
-fn put_items(alloc: Global, out: &mut Writer, brackets: Brackets, items: &[Item]) -> Result<(), Memory>
+fn put_items(
+    alloc: Global,
+    out: &mut Writer,
+    brackets: Brackets,
+    items: &[Item],
+) -> Result<(), Memory>
     ensures { OnOk result (Wrote out.old (spec.items_marks brackets None items.now) out.new) }
 {
     let mut before = None;
@@ -175,7 +185,12 @@ fn put_items(alloc: Global, out: &mut Writer, brackets: Brackets, items: &[Item]
 
 /// Writes a unit.
 #[tactic(auto, using(crate::proofs::MarkLemmas::put_append))]
-pub fn put_unit(alloc: Global, out: &mut Writer, brackets: Brackets, unit: &Unit) -> Result<(), Memory>
+pub fn put_unit(
+    alloc: Global,
+    out: &mut Writer,
+    brackets: Brackets,
+    unit: &Unit,
+) -> Result<(), Memory>
     ensures { OnOk result (Wrote out.old (spec.unit_marks brackets unit.now) out.new) }
 {
     put_items(alloc, out, brackets, unit.items.as_slice())?;

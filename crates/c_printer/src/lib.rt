@@ -3,6 +3,8 @@
 
 mod calls;
 mod depth;
+#[cfg(test)]
+mod depth_tests;
 mod functions;
 mod grade;
 mod group;

@@ -46,7 +46,12 @@ fn put_label(alloc: Global, out: &mut Writer, label: &Name) -> Result<(), Memory
 
 // A place and the `=` behind it.
 #[tactic(auto, using(crate::proofs::MarkLemmas::put_append))]
-fn put_to_place(alloc: Global, out: &mut Writer, brackets: Brackets, place: &Expr) -> Result<(), Memory>
+fn put_to_place(
+    alloc: Global,
+    out: &mut Writer,
+    brackets: Brackets,
+    place: &Expr,
+) -> Result<(), Memory>
     ensures { OnOk result (Wrote out.old (spec.to_place brackets place.now) out.new) }
 {
     put_value(alloc, out, brackets, Place::Operand(Level::Product), place)?;
@@ -56,7 +61,13 @@ fn put_to_place(alloc: Global, out: &mut Writer, brackets: Brackets, place: &Exp
 }
 
 #[tactic(auto, using(crate::proofs::MarkLemmas::put_append))]
-fn put_assign(alloc: Global, out: &mut Writer, brackets: Brackets, place: &Expr, value: &Expr) -> Result<(), Memory>
+fn put_assign(
+    alloc: Global,
+    out: &mut Writer,
+    brackets: Brackets,
+    place: &Expr,
+    value: &Expr,
+) -> Result<(), Memory>
     ensures { OnOk result (Wrote out.old (spec.assign_marks brackets place.now value.now) out.new) }
 {
     put_to_place(alloc, out, brackets, place)?;
@@ -65,7 +76,12 @@ fn put_assign(alloc: Global, out: &mut Writer, brackets: Brackets, place: &Expr,
 }
 
 #[tactic(auto, using(crate::proofs::MarkLemmas::put_append))]
-fn put_call_statement(alloc: Global, out: &mut Writer, brackets: Brackets, call: &Call) -> Result<(), Memory>
+fn put_call_statement(
+    alloc: Global,
+    out: &mut Writer,
+    brackets: Brackets,
+    call: &Call,
+) -> Result<(), Memory>
     ensures { OnOk result (Wrote out.old (spec.ended (spec.call_marks brackets call.now)) out.new) }
 {
     put_call(alloc, out, brackets, call)?;
@@ -73,7 +89,13 @@ fn put_call_statement(alloc: Global, out: &mut Writer, brackets: Brackets, call:
 }
 
 #[tactic(auto, using(crate::proofs::MarkLemmas::put_append))]
-fn put_store(alloc: Global, out: &mut Writer, brackets: Brackets, place: &Expr, call: &Call) -> Result<(), Memory>
+fn put_store(
+    alloc: Global,
+    out: &mut Writer,
+    brackets: Brackets,
+    place: &Expr,
+    call: &Call,
+) -> Result<(), Memory>
     ensures { OnOk result (Wrote out.old (spec.store_marks brackets place.now call.now) out.new) }
 {
     put_to_place(alloc, out, brackets, place)?;
@@ -83,7 +105,13 @@ fn put_store(alloc: Global, out: &mut Writer, brackets: Brackets, place: &Expr, 
 
 // `if (x)`, and the same of `switch`.
 #[tactic(auto, using(crate::proofs::MarkLemmas::put_append))]
-fn put_tested(alloc: Global, out: &mut Writer, brackets: Brackets, word: Keyword, value: &Expr) -> Result<(), Memory>
+fn put_tested(
+    alloc: Global,
+    out: &mut Writer,
+    brackets: Brackets,
+    word: Keyword,
+    value: &Expr,
+) -> Result<(), Memory>
     ensures { OnOk result (Wrote out.old (spec.tested brackets word value.now) out.new) }
 {
     out.token(alloc, Piece::Keyword(word))?;
@@ -94,7 +122,13 @@ fn put_tested(alloc: Global, out: &mut Writer, brackets: Brackets, word: Keyword
 }
 
 #[tactic(auto, using(crate::proofs::MarkLemmas::put_append))]
-fn put_if_goto(alloc: Global, out: &mut Writer, brackets: Brackets, value: &Expr, label: &Name) -> Result<(), Memory>
+fn put_if_goto(
+    alloc: Global,
+    out: &mut Writer,
+    brackets: Brackets,
+    value: &Expr,
+    label: &Name,
+) -> Result<(), Memory>
     ensures { OnOk result (Wrote out.old (spec.if_goto_marks brackets value.now label.now) out.new) }
 {
     put_tested(alloc, out, brackets, Keyword::If, value)?;
@@ -103,7 +137,12 @@ fn put_if_goto(alloc: Global, out: &mut Writer, brackets: Brackets, value: &Expr
 }
 
 // A value behind `return`.
-fn put_returned(alloc: Global, out: &mut Writer, brackets: Brackets, value: &Option<Expr>) -> Result<(), Memory>
+fn put_returned(
+    alloc: Global,
+    out: &mut Writer,
+    brackets: Brackets,
+    value: &Option<Expr>,
+) -> Result<(), Memory>
     ensures { OnOk result (Wrote out.old (spec.return_marks brackets value.now) out.new) }
 {
     match value {
@@ -116,7 +155,12 @@ fn put_returned(alloc: Global, out: &mut Writer, brackets: Brackets, value: &Opt
 }
 
 #[tactic(auto, using(crate::proofs::MarkLemmas::put_append))]
-fn put_return(alloc: Global, out: &mut Writer, brackets: Brackets, value: &Option<Expr>) -> Result<(), Memory>
+fn put_return(
+    alloc: Global,
+    out: &mut Writer,
+    brackets: Brackets,
+    value: &Option<Expr>,
+) -> Result<(), Memory>
     ensures { OnOk result (Wrote out.old (spec.return_statement_marks brackets value.now) out.new) }
 {
     out.token(alloc, Piece::Keyword(Keyword::Return))?;
@@ -243,7 +287,13 @@ fn put_if(alloc: Global, out: &mut Writer, brackets: Brackets, value: &Expr) -> 
 }
 
 #[cycle(statement)]
-fn put_stmt(alloc: Global, out: &mut Writer, brackets: Brackets, indent: usize, stmt: &Stmt) -> Result<(), Memory>
+fn put_stmt(
+    alloc: Global,
+    out: &mut Writer,
+    brackets: Brackets,
+    indent: usize,
+    stmt: &Stmt,
+) -> Result<(), Memory>
     ensures { OnOk result (Wrote out.old (spec.stmt_marks brackets stmt.now indent) out.new) }
 {
     match stmt {
@@ -267,7 +317,13 @@ fn put_stmt(alloc: Global, out: &mut Writer, brackets: Brackets, indent: usize, 
 }
 
 #[cycle(statement)]
-fn put_stmt_line(alloc: Global, out: &mut Writer, brackets: Brackets, indent: usize, stmt: &Stmt) -> Result<(), Memory>
+fn put_stmt_line(
+    alloc: Global,
+    out: &mut Writer,
+    brackets: Brackets,
+    indent: usize,
+    stmt: &Stmt,
+) -> Result<(), Memory>
     ensures { OnOk result (Wrote out.old (Line indent ∷ spec.stmt_marks brackets stmt.now indent) out.new) }
 {
     out.line(indent)?;
@@ -275,7 +331,13 @@ fn put_stmt_line(alloc: Global, out: &mut Writer, brackets: Brackets, indent: us
 }
 
 #[cycle(statement)]
-fn put_stmts(alloc: Global, out: &mut Writer, brackets: Brackets, indent: usize, stmts: &[Stmt]) -> Result<(), Memory>
+fn put_stmts(
+    alloc: Global,
+    out: &mut Writer,
+    brackets: Brackets,
+    indent: usize,
+    stmts: &[Stmt],
+) -> Result<(), Memory>
     ensures { OnOk result (Wrote out.old (spec.lines indent (map (spec.stmt_marks brackets) stmts.now)) out.new) }
 {
     for stmt in stmts {

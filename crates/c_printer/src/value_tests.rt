@@ -17,7 +17,14 @@ fn numbers(rt: HostRuntime) -> Result<(), Fail> {
         span: Span { start: 0, end: 0 },
     };
     let mut writer = Writer::new(rt.alloc());
-    let is_put = put_value(rt.alloc(), &mut writer, Brackets::Clear, Place::Anywhere, &value).is_ok();
+    let is_put = put_value(
+        rt.alloc(),
+        &mut writer,
+        Brackets::Clear,
+        Place::Anywhere,
+        &value,
+    )
+    .is_ok();
     assert_eq!(rt; is_put, true);
     let want = b"5L".as_slice();
     assert_eq!(rt; writer.into_bytes().as_slice() == want, true);

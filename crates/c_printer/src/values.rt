@@ -170,7 +170,13 @@ fn grade(shape: &Shape) -> Grade
 
 /// Writes a value, in brackets where its place asks for them.
 #[cycle(value)]
-pub fn put_value(alloc: Global, out: &mut Writer, brackets: Brackets, place: Place, value: &Expr) -> Result<(), Memory>
+pub fn put_value(
+    alloc: Global,
+    out: &mut Writer,
+    brackets: Brackets,
+    place: Place,
+    value: &Expr,
+) -> Result<(), Memory>
     ensures { OnOk result (Wrote out.old (spec.placed brackets place (spec.printed brackets value.now)) out.new) }
 {
     if stands(brackets, place, grade(&value.shape)) {
@@ -182,7 +188,12 @@ pub fn put_value(alloc: Global, out: &mut Writer, brackets: Brackets, place: Pla
 }
 
 #[cycle(value)]
-fn put_shape(alloc: Global, out: &mut Writer, brackets: Brackets, shape: &Shape) -> Result<(), Memory>
+fn put_shape(
+    alloc: Global,
+    out: &mut Writer,
+    brackets: Brackets,
+    shape: &Shape,
+) -> Result<(), Memory>
     ensures { OnOk result (Wrote out.old (spec.printed_shape brackets shape.now).marks out.new) }
 {
     match shape {
@@ -216,7 +227,12 @@ fn put_shape(alloc: Global, out: &mut Writer, brackets: Brackets, shape: &Shape)
 }
 
 #[cycle(value)]
-fn put_suffixes(alloc: Global, out: &mut Writer, brackets: Brackets, suffixes: &[Suffix]) -> Result<(), Memory>
+fn put_suffixes(
+    alloc: Global,
+    out: &mut Writer,
+    brackets: Brackets,
+    suffixes: &[Suffix],
+) -> Result<(), Memory>
     ensures { OnOk result (Wrote out.old (in_row (map (spec.suffix_marks brackets) suffixes.now)) out.new) }
 {
     for suffix in suffixes {
@@ -233,7 +249,12 @@ fn put_field(alloc: Global, out: &mut Writer, sign: Sign, field: &Name) -> Resul
 }
 
 #[cycle(value)]
-fn put_index(alloc: Global, out: &mut Writer, brackets: Brackets, index: &Expr) -> Result<(), Memory>
+fn put_index(
+    alloc: Global,
+    out: &mut Writer,
+    brackets: Brackets,
+    index: &Expr,
+) -> Result<(), Memory>
     ensures { OnOk result (Wrote out.old (spec.index_marks brackets (spec.printed brackets index.now)) out.new) }
 {
     out.token(alloc, Piece::Sign(Sign::OpenBracket))?;
@@ -242,7 +263,12 @@ fn put_index(alloc: Global, out: &mut Writer, brackets: Brackets, index: &Expr) 
 }
 
 #[cycle(value)]
-fn put_suffix(alloc: Global, out: &mut Writer, brackets: Brackets, suffix: &Suffix) -> Result<(), Memory>
+fn put_suffix(
+    alloc: Global,
+    out: &mut Writer,
+    brackets: Brackets,
+    suffix: &Suffix,
+) -> Result<(), Memory>
     ensures { OnOk result (Wrote out.old (spec.suffix_marks brackets suffix.now) out.new) }
 {
     match suffix {
@@ -253,7 +279,12 @@ fn put_suffix(alloc: Global, out: &mut Writer, brackets: Brackets, suffix: &Suff
 }
 
 #[cycle(value)]
-fn put_links(alloc: Global, out: &mut Writer, brackets: Brackets, links: &[Link]) -> Result<(), Memory>
+fn put_links(
+    alloc: Global,
+    out: &mut Writer,
+    brackets: Brackets,
+    links: &[Link],
+) -> Result<(), Memory>
     ensures { OnOk result (Wrote out.old (spec.link_marks (map (spec.printed_link brackets) links.now)) out.new) }
 {
     for link in links {
@@ -286,7 +317,12 @@ fn put_link(alloc: Global, out: &mut Writer, brackets: Brackets, link: &Link) ->
 }
 
 #[cycle(value)]
-fn put_choices(alloc: Global, out: &mut Writer, brackets: Brackets, choices: &[Choice]) -> Result<(), Memory>
+fn put_choices(
+    alloc: Global,
+    out: &mut Writer,
+    brackets: Brackets,
+    choices: &[Choice],
+) -> Result<(), Memory>
     ensures { OnOk result (Wrote out.old (in_row (map (spec.choice_marks brackets) choices.now)) out.new) }
 {
     for choice in choices {
@@ -296,7 +332,12 @@ fn put_choices(alloc: Global, out: &mut Writer, brackets: Brackets, choices: &[C
 }
 
 #[cycle(value)]
-fn put_choice(alloc: Global, out: &mut Writer, brackets: Brackets, choice: &Choice) -> Result<(), Memory>
+fn put_choice(
+    alloc: Global,
+    out: &mut Writer,
+    brackets: Brackets,
+    choice: &Choice,
+) -> Result<(), Memory>
     ensures { OnOk result (Wrote out.old (spec.choice_marks brackets choice.now) out.new) }
 {
     put_value(alloc, out, brackets, Place::Chosen, &choice.test)?;
