@@ -3,10 +3,10 @@
 use crate::unit::print;
 use c_lexer::NumberType;
 use c_tree::{
-    Base, Block, CType, Expr, Function, Include, Item, Local, Name, Number, Parameter, Shape,
-    Signature, Span, Stmt, Unit,
+    Base, BinaryOperator, Block, CType, Expr, Function, Include, Item, Link, Local, Name, Number,
+    Parameter, Shape, Signature, Span, Stmt, Unit,
 };
-use sqlite_items::Items;
+use sqlite_items::{Boxed, Items};
 use std::alloc::{AllocError, Global};
 use std::test::Fail;
 
@@ -116,5 +116,72 @@ fn is_written(alloc: Global) -> bool {
 #[test]
 fn units(rt: HostRuntime) -> Result<(), Fail> {
     assert_eq!(rt; is_written(rt.alloc()), true);
+    Ok(())
+}
+
+fn joined(
+    alloc: Global,
+    operator: BinaryOperator,
+    first: Expr,
+    operand: Expr,
+) -> Result<Expr, AllocError> {
+    let mut links = Items::new(alloc);
+    links.push(Link { operator, operand })?;
+    let shape = Shape::Chain(Boxed::new(alloc, first)?, links);
+    Ok(Expr {
+        shape,
+        span: NOWHERE,
+    })
+}
+
+fn block_of(alloc: Global, stmt: Stmt) -> Result<Block, AllocError> {
+    let mut body = Items::new(alloc);
+    body.push(stmt)?;
+    Ok(Block {
+        locals: Items::new(alloc),
+        body,
+        span: NOWHERE,
+    })
+}
+
+// `return 0 || 0 && 0;` in so many blocks, and one more.
+fn nested(alloc: Global, depth: usize) -> Result<Unit, AllocError> {
+    let both = joined(alloc, BinaryOperator::And, zero(), zero())?;
+    let value = joined(alloc, BinaryOperator::Or, zero(), both)?;
+    let mut body = block_of(alloc, Stmt::Return(NOWHERE, Some(value)))?;
+    for _ in 0..depth {
+        body = block_of(alloc, Stmt::Block(body))?;
+    }
+    let signature = signature(alloc)?;
+    let mut items = Items::new(alloc);
+    items.push(Item::Function(Function { signature, body }))?;
+    Ok(Unit { items })
+}
+
+fn count_open(text: &[u8]) -> u32 {
+    let mut count: u32 = 0;
+    for byte in text {
+        if *byte == b'(' {
+            count = count.saturating_add(1);
+        }
+    }
+    count
+}
+
+// How many `(` are written of the unit.
+fn open_brackets(alloc: Global, depth: usize) -> u32 {
+    let Ok(unit) = nested(alloc, depth) else {
+        return 0;
+    };
+    match print(alloc, &unit) {
+        Ok(text) => count_open(&text),
+        Err(_) => 0,
+    }
+}
+
+#[test]
+fn brackets_that_nest_too_deep(rt: HostRuntime) -> Result<(), Fail> {
+    assert_eq!(rt; open_brackets(rt.alloc(), 62), 2);
+    assert_eq!(rt; open_brackets(rt.alloc(), 63), 1);
     Ok(())
 }
