@@ -1,5 +1,5 @@
 -- Units that are written are read.
-use Rattle.std.proofs.Common.{◌≡◌, ◌∙◌, refl, sym, ap, ap₂, subst, ℕ, zero, suc, Bool, true, false, cond, not, ◌&&◌, ◌||◌, nat_le, List, [], ◌∷◌, ◌++◌, map, length, drop, ◌≤◌, codes, append_assoc, Option, Some, None, Result, Ok, Err, IfOk, arith}
+use Rattle.std.proofs.Common.{◌≡◌, ◌∙◌, refl, sym, ap, ap₂, subst, ℕ, zero, suc, Bool, true, false, cond, not, ◌&&◌, ◌||◌, nat_le, List, [], ◌∷◌, ◌++◌, map, length, drop, ◌≤◌, codes, append_assoc, Option, Some, None, Result, Ok, Err, IfOk, All, ◌<◌, arith}
 use Rattle.std.proofs.lemmas.Bool.{and_parts}
 use Rattle.c_lexer.specs.declared.token.TokenKind.TheVariants as k
 use Rattle.c_lexer.specs.Written.{IsWord}
@@ -23,7 +23,8 @@ use Rattle.c_printer.specs.Depth.{IsShallowText}
 use Rattle.c_printer.specs.declared.group.Group.{Group}
 use Rattle.c_printer.specs.Alike.{Alike, none, one}
 use Rattle.c_printer.specs.Marks.{Mark, Marks, Name, AKeyword, AConstant, Number, Chars, Character, ASign, Space, Line, word, put_mark, put_marks}
-use Rattle.c_printer.specs.Printed.{CanBePrinted, IsTextOf}
+use Rattle.c_tree.specs.Answers.{CReads, IsWellFormed}
+use Rattle.c_printer.specs.Printed.{IsTextOf}
 use Rattle.c_printer.proofs.Inner.{IsInner, AreInner, IsFile, IsWritableItem, AreWritableItems}
 use Rattle.c_printer.specs.Laws.{TokensAreRead}
 use Rattle.c_printer.specs.Put.{AreBytes}
@@ -273,12 +274,16 @@ marks_shallow o t f (Chars x ∷ ms) = ap (λ b. nat_le (length o) 64 && b) (mar
 marks_shallow o t f (Character x ∷ ms) = ap (λ b. nat_le (length o) 64 && b) (marks_shallow o (put_mark t (Character x)) false ms)
 marks_shallow o t f (ASign x ∷ ms) = ap (λ b. nat_le (length (with_sign o x)) 64 && b) (marks_shallow (with_sign o x) (put_mark t (ASign x)) false ms)
 
+all_bytes : (z : List ℕ) → All (λ (b : ℕ). b < 256) z → AreBytes z
+all_bytes [] h = tt
+all_bytes (b ∷ z) h = (h 0 b (omega arith), all_bytes z (λ k d l. h (suc k) d (omega arith)))
+
 -- what is written of a unit that bytes are read as is read, where it does not nest too deep
 text_read : (style : Brackets) → TokensAreRead → TokensCover → (u : CUnit) (bytes : List ℕ) → bytes ≡ (put_marks empty (unit_marks style u)).bytes
-    → (Tokens (all_of bytes) (lexemes empty true (unit_marks style u)) None → is_shallow [] (word (unit_marks style u)) ≡ true) → CanBePrinted u → IsTextOf u bytes
+    → (Tokens (all_of bytes) (lexemes empty true (unit_marks style u)) None → is_shallow [] (word (unit_marks style u)) ≡ true) → IsWellFormed u → IsTextOf u bytes
 text_read style lexed covers u bytes e nests h =
-    let was = h.reads.reads.items in
-    let inner = items_inner style was (bytes_given h.bytes h.reads.tokens None (covers (all_of h.bytes) h.reads.tokens None (omega arith) h.reads.lexed) h.are_bytes) in
+    let was = h.2.reads.items in
+    let inner = items_inner style was (bytes_given h.0 h.2.tokens None (covers (all_of h.0) h.2.tokens None (omega arith) h.2.lexed) (all_bytes h.0 h.1)) in
     let m = all_items_read style u.items library_names was inner in
     let read : CUnit = record { items = m.tree } in
     let same : bare read ≡ bare u = λ i. record { items = m.same i } in
@@ -289,18 +294,18 @@ text_read style lexed covers u bytes e nests h =
         tokens = lexemes empty true (unit_marks style u);
         lexed = tokens;
         reads = record { items = m.reads; shallow = all_items_nest style u.items inner [] (nests tokens) };
-        sound = sound_alike u read was m.reads same h.reads.sound;
+        sound = sound_alike u read was m.reads same h.2.sound;
       };
       same = same;
     }
 
 -- a text in which no more than 64 brackets are open
-pub shallow_read : (style : Brackets) → TokensAreRead → TokensCover → (u : CUnit) (bytes : List ℕ) → bytes ≡ (put_marks empty (unit_marks style u)).bytes → IsShallowText bytes → CanBePrinted u → IsTextOf u bytes
+pub shallow_read : (style : Brackets) → TokensAreRead → TokensCover → (u : CUnit) (bytes : List ℕ) → bytes ≡ (put_marks empty (unit_marks style u)).bytes → IsShallowText bytes → IsWellFormed u → IsTextOf u bytes
 shallow_read style lexed covers u bytes e shallow h = text_read style lexed covers u bytes e (λ ts. sym (marks_shallow [] empty true (unit_marks style u)) ∙ shallow (lexemes empty true (unit_marks style u)) ts) h
 
 -- a text with the brackets that are needed
-pub needed_read : TokensAreRead → TokensCover → (u : CUnit) (bytes : List ℕ) → bytes ≡ (put_marks empty (unit_marks Needed u)).bytes → CanBePrinted u → IsTextOf u bytes
-needed_read lexed covers u bytes e h = text_read Needed lexed covers u bytes e (λ ts. needed_nests h.reads.reads.items h.reads.reads.shallow) h
+pub needed_read : TokensAreRead → TokensCover → (u : CUnit) (bytes : List ℕ) → bytes ≡ (put_marks empty (unit_marks Needed u)).bytes → IsWellFormed u → IsTextOf u bytes
+needed_read lexed covers u bytes e h = text_read Needed lexed covers u bytes e (λ ts. needed_nests h.2.reads.items h.2.reads.shallow) h
 
 -- what follows of a text that was written
 pub on_text : {V E : Type 0} {P Q : V → Type 0} (r : Result V E) → IfOk r P → ((x : V) → P x → Q x) → IfOk r Q

@@ -1,9 +1,10 @@
 // The text of a unit.
 
 ghost use Rattle.std.specs.Prelude.{◌≡◌, IfOk, true};
+ghost use Rattle.c_tree.specs.Answers.{IsWellFormed};
 ghost use Rattle.c_printer.specs.Depth.{IsShallowText};
 ghost use Rattle.c_printer.specs.Marks.{put_marks};
-ghost use Rattle.c_printer.specs.Printed.{CanBePrinted, IsTextOf};
+ghost use Rattle.c_printer.specs.Printed.{IsTextOf};
 ghost use Rattle.c_printer.specs.PutItems.{unit_marks};
 ghost use Rattle.c_printer.specs.Text.{empty};
 
@@ -35,7 +36,7 @@ fn can_be_read(text: &[u8]) -> bool
 /// The text of a unit, one statement a line. It is read as the unit, apart from places. Brackets that the grammar does not need
 /// are left out where the text would nest too deep with them.
 pub fn print(alloc: Global, unit: &Unit) -> Result<Vec<u8>, Memory>
-    ensures { IfOk result (λ text. CanBePrinted unit.now → IsTextOf unit.now text.items) }
+    ensures { IfOk result (λ text. IsWellFormed unit.now → IsTextOf unit.now text.items) }
 {
     tokens_are_read();
     tokens_cover();

@@ -26,9 +26,9 @@ pub record CReads (bytes : List ℕ) (unit : CUnit) : Type 0 where
   pub reads : ReadsUnit (words tokens) unit
   pub sound : IsSound unit
 
--- A unit is well formed where some text reads as it.
+-- A unit is well formed where some text reads as it; the bytes of a text are below 256.
 abbrev pub IsWellFormed : CUnit → Type 0
-IsWellFormed unit = (bytes : List ℕ) × CReads bytes unit
+IsWellFormed unit = (bytes : List ℕ) × All (λ (b : ℕ). b < 256) bytes × CReads bytes unit
 
 -- 2. Texts that stop
 
