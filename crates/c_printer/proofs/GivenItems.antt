@@ -1,12 +1,10 @@
 -- Statements and items that the tokens of bytes are read as can be written.
-use Rattle.std.proofs.Common.{◌≡◌, ◌∙◌, refl, sym, ap, subst, ℕ, zero, suc, Bool, true, false, List, [], ◌∷◌, ◌++◌, map, append-nil, Option, Some, None}
+use Rattle.std.proofs.Common.{◌≡◌, refl, sym, subst, ℕ, zero, suc, Bool, true, false, List, [], ◌∷◌, ◌++◌, map, Some, None}
 use Rattle.c_lexer.specs.declared.token.Keyword.{Keyword}
 use Rattle.c_lexer.specs.declared.token.Keyword.TheVariants as keyword
 use Rattle.c_lexer.specs.declared.token.Sign.TheVariants as sign
 use Rattle.c_tree.specs.declared.names.CType.{CType}
-use Rattle.c_tree.specs.declared.names.Name as tree
 use Rattle.c_tree.specs.declared.names.SignedNumber.{SignedNumber}
-use Rattle.c_tree.specs.declared.names.Span.{Span}
 use Rattle.c_tree.specs.declared.operators.Level.TheVariants as level
 use Rattle.c_tree.specs.declared.code.Expr.{Expr}
 use Rattle.c_tree.specs.declared.code.Local.{Local}
@@ -19,20 +17,19 @@ use Rattle.c_tree.specs.declared.unit.Item.{Item}
 use Rattle.c_tree.specs.declared.unit.Member.{Member}
 use Rattle.c_tree.specs.declared.unit.Parameter.{Parameter}
 use Rattle.c_tree.specs.declared.unit.Signature.{Signature}
-use Rattle.c_tree.specs.Words.{Token, Word, IsName, Header, at, join}
+use Rattle.c_tree.specs.Words.{Token, Word, IsName, at, join}
 use Rattle.c_tree.specs.Names.{Names}
-use Rattle.c_tree.specs.Make.{name_at, block}
+use Rattle.c_tree.specs.Make.{name_at}
 use Rattle.c_tree.specs.Statements as st
 use Rattle.c_tree.specs.Statements.{ReadsStmt, ReadsStmts, ReadsBlock, ReadsLocal, local_is, ReadsLocals, no_local, more_locals, ReadsNumber, number_is, negative_is, ReadsCall, call_value, call_row, call_type_row, ReadsPlace, place_is, ReadsGoto, goto_is, ReadsCases, no_case, more_cases}
 use Rattle.c_tree.specs.Items as it
-use Rattle.c_tree.specs.Items.{ReadsMember, member_is, ReadsMoreMembers, no_member, more_members, ReadsFields, no_field, more_fields, ReadsParameter, unnamed, named, ReadsMoreParameters, no_parameter, more_parameters, ReadsParameters, none_taken, some_taken, ReadsStatic, not_static, is_static, ReadsSignature, signature_is, ReadsItem, ReadsItems, no_item, more_items}
+use Rattle.c_tree.specs.Items.{ReadsMember, member_is, ReadsMoreMembers, no_member, more_members, ReadsFields, no_field, more_fields, ReadsParameter, unnamed, named, ReadsMoreParameters, no_parameter, more_parameters, ReadsParameters, none_taken, some_taken, ReadsSignature, signature_is, ReadsItem, ReadsItems, no_item, more_items}
 use Rattle.c_printer.specs.declared.grade.Brackets.{Brackets}
-use Rattle.c_printer.specs.declared.grade.Place.TheVariants.{BehindPrefix}
 use Rattle.c_printer.specs.Marks.{Marks, Name, AKeyword, ASign, Space, Line}
-use Rattle.c_printer.proofs.Inner.{IsInner, AreInner, IsFile, IsWritableItem, AreWritableItems}
-use Rattle.c_printer.specs.PutValues.{type_marks, in_brackets, placed, printed, value_marks, arguments_marks, more_arguments_marks, spaced}
-use Rattle.c_printer.specs.PutStatements.{before_name, declared_marks, name_ended, local_marks, locals_marks, callee_marks, call_marks, between_marks, number_marks, goto_marks, place_marks, case_marks, case_line, cases_marks, default_marks, to_place, tested, ended, deeper, Indented, lines, print_stmt, print_block, stmt_marks, block_marks, if_marks, else_marks, close_marks, switch_marks}
-use Rattle.c_printer.specs.PutItems.{struct_marks, member_marks, member_line, next_member_marks, more_members_marks, members_marks, enum_start_marks, enum_end_marks, closed_marks, named_marks, parameter_marks, next_parameter_marks, more_parameters_marks, taken_marks, parameters_marks, static_marks, signature_marks, taken_by_pointer, set_marks, interface_type_marks, table_marks}
+use Rattle.c_printer.proofs.Inner.{IsInner, AreInner, IsWritableItem, AreWritableItems}
+use Rattle.c_printer.specs.PutValues.{type_marks, in_brackets, value_marks, more_arguments_marks, spaced}
+use Rattle.c_printer.specs.PutStatements.{before_name, declared_marks, name_ended, local_marks, locals_marks, callee_marks, call_marks, between_marks, number_marks, goto_marks, place_marks, cases_marks, default_marks, to_place, tested, ended, deeper, Indented, lines, print_stmt, stmt_marks, block_marks, close_marks}
+use Rattle.c_printer.specs.PutItems.{member_line, more_members_marks, members_marks, enum_start_marks, enum_end_marks, closed_marks, parameter_marks, more_parameters_marks, parameters_marks, static_marks, signature_marks, taken_by_pointer, set_marks, interface_type_marks, table_marks}
 use Rattle.c_printer.proofs.StatementReading.{stmt_at, stmt_layer, stmt_written, block_written}
 use Rattle.c_printer.proofs.TokensOfBytes.{Said, IsGiven, AreGiven, given_append, a_name, a_number}
 use Rattle.c_printer.proofs.GivenValues.{inner_append, in_brackets_inner, type_inner, value_inner, operand_inner, callee_inner, arguments_inner, more_inner}

@@ -20,7 +20,7 @@ use Rattle.c_tree.specs.declared.code.Link.{Link}
 use Rattle.c_tree.specs.Words.{Token, Word, at, join}
 use Rattle.c_tree.specs.Kinds.{level_of}
 use Rattle.c_tree.specs.Names.{Names}
-use Rattle.c_tree.specs.Make.{name_at, expr, link, choice, chained, prefixed, suffixed, conditional, bracketed}
+use Rattle.c_tree.specs.Make.{name_at, expr, link, choice, chained, prefixed, suffixed, conditional}
 use Rattle.c_tree.specs.Types.{BaseIs, void_is, int_is, char_is, named_is, ReadsType, type_is}
 use Rattle.c_tree.specs.Values as v
 use Rattle.c_tree.specs.Values.{prefix_of}

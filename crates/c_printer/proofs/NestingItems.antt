@@ -1,5 +1,5 @@
 -- Statements and items with the brackets that are needed nest no deeper than the tokens that are read as them.
-use Rattle.std.proofs.Common.{◌≡◌, ◌∙◌, refl, sym, ap, subst, ℕ, zero, suc, ◌≤◌, Bool, true, false, nat_le, List, [], ◌∷◌, ◌++◌, length, map, codes, append_assoc, append-nil, Option, Some, None, arith}
+use Rattle.std.proofs.Common.{◌≡◌, ◌∙◌, refl, sym, ap, subst, ℕ, Bool, true, false, List, [], ◌∷◌, ◌++◌, map, codes, append_assoc, append-nil, Option, Some, None, arith}
 use Rattle.c_lexer.specs.declared.token.TokenKind.TheVariants as k
 use Rattle.c_lexer.specs.declared.token.Constant.TheVariants as constant
 use Rattle.c_lexer.specs.declared.token.Keyword.{Keyword}
@@ -7,7 +7,6 @@ use Rattle.c_lexer.specs.declared.token.Keyword.TheVariants as keyword
 use Rattle.c_lexer.specs.declared.token.Sign.{Sign}
 use Rattle.c_lexer.specs.declared.token.Sign.TheVariants as sign
 use Rattle.c_tree.specs.declared.names.CType.{CType}
-use Rattle.c_tree.specs.declared.names.Name as tree
 use Rattle.c_tree.specs.declared.names.SignedNumber.{SignedNumber}
 use Rattle.c_tree.specs.declared.operators.Level.TheVariants as level
 use Rattle.c_tree.specs.declared.code.Expr.{Expr}
@@ -23,22 +22,22 @@ use Rattle.c_tree.specs.declared.unit.Item.{Item}
 use Rattle.c_tree.specs.declared.unit.Member.{Member}
 use Rattle.c_tree.specs.declared.unit.Parameter.{Parameter}
 use Rattle.c_tree.specs.declared.unit.Signature.{Signature}
-use Rattle.c_tree.specs.Words.{Of, Header, Token, Word, IsSign, IsWord, IsName, Open, is_shallow, at, join}
+use Rattle.c_tree.specs.Words.{Of, Header, Token, Word, IsSign, IsWord, IsName, is_shallow, at, join}
 use Rattle.c_tree.specs.Names.{Names}
-use Rattle.c_tree.specs.Make.{name_at, block}
+use Rattle.c_tree.specs.Make.{name_at}
 use Rattle.c_tree.specs.Statements as st
 use Rattle.c_tree.specs.Statements.{ReadsStmt, ReadsStmts, ReadsBlock, ReadsLocal, local_is, ReadsLocals, no_local, more_locals, ReadsNumber, number_is, negative_is, ReadsCall, call_value, call_row, call_type_row, ReadsPlace, place_is, ReadsGoto, goto_is, ReadsCases, no_case, more_cases}
 use Rattle.c_tree.specs.Items as it
 use Rattle.c_tree.specs.Items.{ReadsMember, member_is, ReadsMoreMembers, no_member, more_members, ReadsFields, no_field, more_fields, ReadsParameter, unnamed, named, ReadsMoreParameters, no_parameter, more_parameters, ReadsParameters, none_taken, some_taken, ReadsStatic, not_static, is_static, ReadsSignature, signature_is, ReadsItem, ReadsItems, no_item, more_items}
 use Rattle.c_printer.specs.declared.grade.Brackets.TheVariants.{Needed}
 use Rattle.c_printer.specs.declared.group.Group.{Group}
-use Rattle.c_printer.specs.Marks.{Marks, Name, AKeyword, ASign, Space, Line, token, word}
-use Rattle.c_printer.specs.PutValues.{type_marks, in_brackets, value_marks, arguments_marks, more_arguments_marks, spaced}
-use Rattle.c_printer.specs.PutStatements.{before_name, declared_marks, name_ended, local_marks, locals_marks, callee_marks, call_marks, between_marks, number_marks, goto_marks, place_marks, case_marks, cases_marks, default_marks, to_place, tested, ended, deeper, Indented, lines, print_stmt, print_block, stmt_marks, block_marks, close_marks}
-use Rattle.c_printer.specs.PutItems.{struct_marks, member_line, next_member_marks, more_members_marks, members_marks, enum_start_marks, enum_end_marks, closed_marks, parameter_marks, next_parameter_marks, more_parameters_marks, taken_marks, parameters_marks, static_marks, signature_marks, taken_by_pointer, set_marks, interface_type_marks, table_marks, include_marks, item_marks, group_of, is_close, between_items, items_marks}
+use Rattle.c_printer.specs.Marks.{Marks, Name, ASign, Space, Line, token, word}
+use Rattle.c_printer.specs.PutValues.{type_marks, value_marks, arguments_marks, more_arguments_marks}
+use Rattle.c_printer.specs.PutStatements.{before_name, declared_marks, local_marks, locals_marks, callee_marks, call_marks, number_marks, goto_marks, place_marks, cases_marks, to_place, ended, deeper, Indented, lines, print_stmt, stmt_marks, block_marks}
+use Rattle.c_printer.specs.PutItems.{member_line, more_members_marks, members_marks, enum_end_marks, closed_marks, parameter_marks, more_parameters_marks, parameters_marks, static_marks, signature_marks, taken_by_pointer, set_marks, include_marks, item_marks, group_of, is_close, between_items, items_marks}
 use Rattle.c_printer.proofs.StatementReading.{nameless, local_word, call_word, stmt_at, stmt_layer, stmt_written, block_written, assign_word, test_word, if_word, else_word, switch_word, block_word}
 use Rattle.c_printer.proofs.TypeReading.{word_append}
-use Rattle.c_printer.proofs.Nesting.{Stack, Under, loosened, nothing, append, both, grouped, Quiet, AllQuiet, quiet_under, same_quiet, one, a_name, a_keyword, a_sign, a_colon, next, parens, braces, enclosed, enclosed_then, enclosed_marks}
+use Rattle.c_printer.proofs.Nesting.{Under, loosened, nothing, append, both, grouped, AllQuiet, quiet_under, same_quiet, one, a_name, a_keyword, a_sign, a_colon, next, parens, braces, enclosed, enclosed_then, enclosed_marks}
 use Rattle.c_printer.proofs.NestingValues.{type_under, value_under, operand_under, callee_under, arguments_under, more_under}
 
 -- 1. Parts of statements

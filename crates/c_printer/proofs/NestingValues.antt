@@ -1,5 +1,5 @@
 -- Types and values with the brackets that are needed nest no deeper than the tokens that are read as them.
-use Rattle.std.proofs.Common.{◌≡◌, ◌∙◌, refl, sym, ap, subst, ℕ, zero, suc, ◌+◌, ◌<◌, ◌≤◌, nat_le, nat_lt, Bool, true, false, ◌||◌, List, [], ◌∷◌, ◌++◌, map, append_assoc, append-nil, Option, Some, None, arith}
+use Rattle.std.proofs.Common.{◌≡◌, ◌∙◌, refl, sym, ap, subst, ℕ, zero, suc, ◌+◌, ◌<◌, ◌≤◌, nat_le, nat_lt, Bool, true, false, List, [], ◌∷◌, ◌++◌, map, append_assoc, append-nil, Option, Some, None, arith}
 use Rattle.std.proofs.lemmas.Bool.{cond_both, le-leb}
 use Rattle.c_lexer.specs.declared.token.TokenKind.TheVariants as k
 use Rattle.c_lexer.specs.declared.token.Keyword.TheVariants as keyword
@@ -21,7 +21,7 @@ use Rattle.c_tree.specs.declared.code.Shape.TheOpen.{Shape-F, Suffix-F}
 use Rattle.c_tree.specs.declared.code.Suffix.{Suffix}
 use Rattle.c_tree.specs.declared.code.Choice.{Choice}
 use Rattle.c_tree.specs.declared.code.Link.{Link}
-use Rattle.c_tree.specs.Words.{Of, Token, Word, IsSign, IsWord, IsName, at, join}
+use Rattle.c_tree.specs.Words.{Of, Token, Word, IsSign, IsWord, at, join}
 use Rattle.c_tree.specs.Kinds.{level_of}
 use Rattle.c_tree.specs.Names.{Names}
 use Rattle.c_tree.specs.Make.{name_at, expr, link, choice, chained, prefixed, suffixed, conditional, bracketed}
@@ -32,11 +32,11 @@ use Rattle.c_printer.specs.declared.grade.Brackets.TheVariants.{Needed}
 use Rattle.c_printer.specs.declared.grade.Grade.{Grade}
 use Rattle.c_printer.specs.declared.grade.Place.{Place}
 use Rattle.c_printer.specs.declared.grade.Place.TheVariants.{Anywhere, Chosen, Operand, BehindPrefix, BeforeSuffix}
-use Rattle.c_printer.specs.Grades.{rank, grade_rank, binds, stands}
+use Rattle.c_printer.specs.Grades.{rank, grade_rank, binds}
 use Rattle.c_printer.specs.Marks.{Marks, Name, ASign, Space, token, word, in_row}
 use Rattle.c_printer.specs.PutValues.{Printed, PrintedLink, const_marks, base_marks, stars, star_marks, sign_of, prefix_marks, prefixes_marks, type_marks, cast_marks, in_brackets, placed, link_marks, printed, printed_link, suffix_marks, choice_marks, value_marks, spaced, print_shape, print_suffix, arguments_marks, more_arguments_marks}
 use Rattle.c_printer.proofs.BareTrees.{shape_at, shape_layer, suffix_at, suffix_layer, printed_span, printed_at, choice_written, link_written, suffix_written_at}
-use Rattle.c_printer.proofs.Nesting.{Stack, Under, nothing, append, both, grouped, Quiet, AllQuiet, quiet_append, quiet_under, same_quiet, one, a_name, a_keyword, a_sign, next, parens, squares, question, enclosed, unbracketed, enclosed_then, enclosed_marks}
+use Rattle.c_printer.proofs.Nesting.{Under, nothing, append, both, grouped, Quiet, AllQuiet, quiet_append, quiet_under, same_quiet, one, a_name, a_keyword, a_sign, next, parens, squares, question, enclosed, unbracketed, enclosed_then, enclosed_marks}
 use Rattle.c_printer.proofs.TypeReading.{word_append}
 
 -- 1. Types

@@ -1,5 +1,5 @@
 -- What the tokens of bytes say: words are no keywords where they are names, numbers are within their types, and texts are of bytes.
-use Rattle.std.proofs.Common.{◌≡◌, ◌∙◌, refl, sym, ap, subst, ℕ, zero, suc, ◌-◌, ◌+◌, ◌*◌, ◌<◌, ◌≤◌, ◌^◌, Bool, true, false, cond, not, ◌&&◌, ◌||◌, ◌==◌, nat_lt, List, [], ◌∷◌, ◌++◌, length, take, drop, codes, Option, Some, None, arith}
+use Rattle.std.proofs.Common.{◌≡◌, ◌∙◌, refl, sym, ap, subst, ℕ, zero, suc, ◌-◌, ◌+◌, ◌<◌, ◌^◌, Bool, true, false, cond, ◌&&◌, ◌==◌, nat_lt, List, [], ◌∷◌, ◌++◌, length, take, drop, codes, Option, Some, None, arith}
 use Rattle.std.proofs.lemmas.Bool.{cond_both, and_parts, ltb-true}
 use Rattle.std.specs.Str.{bytes_eq}
 use Rattle.c_lexer.specs.declared.numbers.Suffix.{Suffix}
@@ -12,14 +12,14 @@ use Rattle.c_lexer.specs.declared.token.TokenKind.{TokenKind}
 use Rattle.c_lexer.specs.declared.token.TokenKind.TheVariants as k
 use Rattle.c_lexer.specs.Laws.{Covers, last, stopped, next}
 use Rattle.c_lexer.specs.Numbers.{below, number_type}
-use Rattle.c_lexer.specs.Texts.{simple_escape, text_value}
-use Rattle.c_lexer.specs.Tokens.{Lexeme, Tokens, all_of}
+use Rattle.c_lexer.specs.Texts.{simple_escape}
+use Rattle.c_lexer.specs.Tokens.{Lexeme}
 use Rattle.c_lexer.specs.Words.{word_kind}
 use Rattle.c_lexer.specs.Written as written
 use Rattle.c_lexer.specs.Written.{IsWord, IsToken, Denotes}
 use Rattle.c_lexer.proofs.DenotesLemmas.{text_denotes}
 use Rattle.c_tree.specs.declared.unit.Include.TheVariants as include
-use Rattle.c_tree.specs.Words.{Terminal, Of, Header, Token, Word, Named, named, side_by_side, system_file, own_file, file_at, is_file_name, Behind, Other, Hash, IncludeWord, Inside, meant, plain, header, then_behind, file_behind, words_by, words_behind, words, IsName}
+use Rattle.c_tree.specs.Words.{Terminal, Of, Header, Token, Word, Named, named, side_by_side, system_file, own_file, file_at, is_file_name, Behind, Other, Hash, IncludeWord, Inside, meant, then_behind, file_behind, words_by, words_behind, words, IsName}
 use Rattle.c_printer.specs.Marks.{Name, Number, Chars, Character}
 use Rattle.c_printer.proofs.Inner.{IsFile, IsInner}
 use Rattle.c_printer.specs.Put.{AreBytes, Holds}

@@ -11,7 +11,7 @@ use Rattle.c_tree.specs.declared.unit.Item.TheVariants as item
 use Rattle.c_tree.specs.Words.{Token, Word, plain, words, words_behind, Other, BeginsLine, Open, with_sign, with_terminal, is_shallow}
 use Rattle.c_tree.specs.Names.{Names, with_item, library_names}
 use Rattle.c_tree.specs.Items as it
-use Rattle.c_tree.specs.Items.{ReadsItem, ReadsItems, no_item, more_items, is_include, ends_line}
+use Rattle.c_tree.specs.Items.{ReadsItem, ReadsItems, no_item, more_items, is_include}
 use Rattle.c_tree.specs.Bare.{bare_item, bare}
 use Rattle.c_tree.specs.declared.unit.Unit.{Unit as CUnit}
 use Rattle.c_lexer.specs.declared.token.BadToken.{BadToken}
@@ -23,7 +23,7 @@ use Rattle.c_printer.specs.Depth.{IsShallowText}
 use Rattle.c_printer.specs.declared.group.Group.{Group}
 use Rattle.c_printer.specs.Alike.{Alike, none, one}
 use Rattle.c_printer.specs.Marks.{Mark, Marks, Name, AKeyword, AConstant, Number, Chars, Character, ASign, Space, Line, word, put_mark, put_marks}
-use Rattle.c_tree.specs.Answers.{CReads, IsWellFormed}
+use Rattle.c_tree.specs.Answers.{IsWellFormed}
 use Rattle.c_printer.specs.Printed.{IsTextOf}
 use Rattle.c_printer.proofs.Inner.{IsInner, AreInner, IsFile, IsWritableItem, AreWritableItems}
 use Rattle.c_printer.specs.Laws.{TokensAreRead}

@@ -1,4 +1,4 @@
-use Rattle.std.proofs.Common.{◌≡◌, ◌∙◌, sym, ap, Ok}
+use Rattle.std.proofs.Common.{◌∙◌, sym, ap, Ok}
 use Rattle.c_lexer.specs.Tokens.{left, shown}
 use Rattle.c_printer.proofs.DepthLemmas.{one_passed}
 use Rattle.c_printer.proofs.depth.is_shallow.Goals as goal
