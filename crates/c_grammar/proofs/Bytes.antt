@@ -1,0 +1,7 @@
+-- Bytes that are found equal are equal.
+use Rattle.std.proofs.Common.{◌≡◌, ℕ, true, List}
+use Rattle.std.specs.Str.{bytes_eq}
+use Rattle.std.proofs.lemmas.Slice.Eq.{bytes_eq-Decides}
+
+pub same_bytes : (x y : List ℕ) → bytes_eq x y ≡ true → x ≡ y
+same_bytes x y e = (bytes_eq-Decides x y).0 e

@@ -1,0 +1,28 @@
+-- The trees of the texts without tokens.
+use Rattle.std.proofs.Common.{◌≡◌, true, false, [], ◌∷◌}
+use Rattle.predictive_grammar.proofs.Fits.{Nones, never, only, Among}
+use Rattle.c_grammar.specs.Trees.{type_of, no_stars}
+use Rattle.c_grammar.specs.Parts.{What, tree_of, Consts, Stars, TypeRest, ChoosingTail, Upto, Links, Suffixes, Arguments, MoreArguments}
+use Rattle.c_grammar.specs.Tables.{none_of}
+
+abbrev pub nones : (w : What) → Nones (tree_of w)
+nones Consts = only []
+nones (Stars false) = only no_stars
+nones (TypeRest u t false) = only (type_of u t [] no_stars)
+nones (ChoosingTail k a) = only ([], a)
+nones (Upto l k a) = only a
+nones (Links l k) = only []
+nones (Suffixes dot false) = only []
+nones Arguments = only []
+nones MoreArguments = only []
+nones w = never
+
+pub means : (w : What) (a : tree_of w) → none_of w a → Among (nones w) a
+means (Stars true) a e = e
+means (Stars false) a e = e
+means (TypeRest u t true) a e = e
+means (TypeRest u t false) a e = e
+means (Suffixes dot true) a e = e
+means (Suffixes dot false) a e = e
+means Consts a e = e
+means _ a e = e

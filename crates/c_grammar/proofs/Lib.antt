@@ -1,0 +1,9 @@
+pub mod Bytes
+pub mod Classes
+pub mod Samples
+pub mod Empty
+pub mod Fitting
+pub mod FitTypes
+pub mod FitChains
+pub mod FitOperands
+pub mod Predictive

@@ -1,0 +1,165 @@
+-- Each part has a text, and one token of lookahead reads the grammar.
+use Rattle.std.proofs.Common.{◌≡◌, ℕ, suc, ◌≤◌, Bool, true, false, refl, [], ◌∷◌, arith, None}
+use Rattle.predictive_grammar.specs.Forms.{Form, give}
+use Rattle.predictive_grammar.specs.Follows.{Word, Follows, given, taken, read, first, second, Reads}
+use Rattle.predictive_grammar.specs.Fit.{IsPredictive}
+use Rattle.predictive_grammar.proofs.Ways.{Way, end, by_token, by_text, by_known, one, other, some_text}
+use Rattle.c_lexer.specs.declared.token.Keyword.{Keyword}
+use Rattle.c_lexer.specs.declared.token.Keyword.TheVariants as keyword
+use Rattle.c_lexer.specs.declared.token.Sign.{Sign}
+use Rattle.c_lexer.specs.declared.token.Sign.TheVariants as sign
+use Rattle.c_tree.specs.declared.operators.Level.{Level}
+use Rattle.c_tree.specs.declared.operators.Level.TheVariants as level
+use Rattle.c_tree.specs.declared.code.Expr.{Expr}
+use Rattle.c_tree.specs.Words.{Token}
+use Rattle.c_tree.specs.Names.{Names}
+use Rattle.c_tree.specs.Values.{is_place}
+use Rattle.c_tree.specs.Make.{suffixed}
+use Rattle.c_grammar.specs.Sorts.{Kind, kind}
+use Rattle.c_grammar.specs.Tests.{level_number}
+use Rattle.c_grammar.specs.Parts.{What, Part, tree_of, at, Consts, Stars, TypeRest, AnyType, Value, Choosing, ChoosingTail, Upto, Links, Operand, Prefixed, Place, Postfixed, Primary, Suffixes, Arguments, MoreArguments}
+use Rattle.c_grammar.specs.Trees.{no_stars}
+use Rattle.c_grammar.specs.Grammar.{C, forms, form, just, place_behind}
+use Rattle.c_grammar.specs.Tables.{tables, rank_of}
+use Rattle.c_grammar.proofs.Samples.{a_sign, a_word, a_number, a_name}
+use Rattle.c_grammar.proofs.Fitting.{Suited}
+use Rattle.c_grammar.proofs.FitTypes.{fit_consts, fit_stars, fit_type_rest, fit_any_type}
+use Rattle.c_grammar.proofs.FitChains.{fit_value, fit_choosing, fit_choosing_tail, fit_upto, fit_links, fit_operand}
+use Rattle.c_grammar.proofs.FitOperands.{fit_suffixes, fit_primary, fit_prefixed, fit_place, fit_postfixed, fit_arguments, fit_more_arguments}
+
+-- a token of a kind
+abbrev sample : Kind → Token
+sample x = record { terminal = x.terminal; bytes = x.bytes; start = 0; «end» = 0; begins_line = x.begins_line }
+
+is_sample : (x : Kind) → kind (sample x) ≡ x
+is_sample x = refl
+
+-- how dear a text of each part is: more than those of the parts in it
+abbrev cost_of : What → ℕ
+cost_of (TypeRest u t must) = 1
+cost_of (AnyType anyhow object) = 2
+cost_of (Suffixes dot must) = 1
+cost_of (Upto l k a) = suc (level_number l)
+cost_of (ChoosingTail k a) = 11
+cost_of (Prefixed k) = 2
+cost_of Place = 2
+cost_of Postfixed = 2
+cost_of (Operand l k) = 12
+cost_of (Choosing k) = 12
+cost_of (Value k) = 13
+cost_of w = 0
+
+abbrev WayOf : (ns : Names) (w : What) → Form C (at ns w) → Type 0
+WayOf ns w form = Way C forms (λ (p : Part). cost_of p.what) sample is_sample (at ns w) form
+
+abbrev sign_kind : Sign → Kind
+sign_kind s = kind (a_sign s)
+
+abbrev word_kind : Keyword → Kind
+word_kind w = kind (a_word w)
+
+-- no suffixes
+none_known : (ns : Names) (l : ℕ) → (w : Word C) × Reads C forms None (at ns (Suffixes true false)) l w []
+unfolding form
+none_known ns l = ([], second (second (given [])))
+
+way_suffixes : (ns : Names) (dot must : Bool) → WayOf ns (Suffixes dot must) (form ns (Suffixes dot must))
+unfolding form
+way_suffixes ns dot true = one (by_token (sign_kind sign.Arrow) refl (by_token (kind a_name) refl (by_known [] (none_known ns) end)))
+way_suffixes ns dot false = other (other end)
+
+no_const_known : (ns : Names) (l : ℕ) → (w : Word C) × Reads C forms None (at ns Consts) l w []
+unfolding form
+no_const_known ns l = ([], second (given []))
+
+no_star_known : (ns : Names) (l : ℕ) → (w : Word C) × Reads C forms None (at ns (Stars false)) l w no_stars
+unfolding form
+no_star_known ns l = ([], second (given no_stars))
+
+way_stars : (ns : Names) (must : Bool) → WayOf ns (Stars must) (form ns (Stars must))
+unfolding form
+way_stars ns true = by_token (sign_kind sign.Star) refl (by_known [] (no_const_known ns) (by_known no_stars (no_star_known ns) end))
+way_stars ns false = other end
+
+way_upto : (ns : Names) (l : Level) (k : Bool) (a : Expr) → WayOf ns (Upto l k a) (form ns (Upto l k a))
+unfolding form
+way_upto ns level.Product k a = by_text refl (λ ls. end)
+way_upto ns level.Sum k a = by_text refl (λ b. by_text refl (λ ls. end))
+way_upto ns level.Shift k a = by_text refl (λ b. by_text refl (λ ls. end))
+way_upto ns level.Relation k a = by_text refl (λ b. by_text refl (λ ls. end))
+way_upto ns level.Equality k a = by_text refl (λ b. by_text refl (λ ls. end))
+way_upto ns level.BitAnd k a = by_text refl (λ b. by_text refl (λ ls. end))
+way_upto ns level.BitXor k a = by_text refl (λ b. by_text refl (λ ls. end))
+way_upto ns level.BitOr k a = by_text refl (λ b. by_text refl (λ ls. end))
+way_upto ns level.And k a = by_text refl (λ b. by_text refl (λ ls. end))
+way_upto ns level.Or k a = by_text refl (λ b. by_text refl (λ ls. end))
+
+way_operand : (ns : Names) (l : Level) (k : Bool) → WayOf ns (Operand l k) (form ns (Operand l k))
+unfolding form
+way_operand ns level.Product k = by_text refl (λ o. end)
+way_operand ns level.Sum k = by_text refl (λ o. by_text refl (λ a. end))
+way_operand ns level.Shift k = by_text refl (λ o. by_text refl (λ a. end))
+way_operand ns level.Relation k = by_text refl (λ o. by_text refl (λ a. end))
+way_operand ns level.Equality k = by_text refl (λ o. by_text refl (λ a. end))
+way_operand ns level.BitAnd k = by_text refl (λ o. by_text refl (λ a. end))
+way_operand ns level.BitXor k = by_text refl (λ o. by_text refl (λ a. end))
+way_operand ns level.BitOr k = by_text refl (λ o. by_text refl (λ a. end))
+way_operand ns level.And k = by_text refl (λ o. by_text refl (λ a. end))
+way_operand ns level.Or k = by_text refl (λ o. by_text refl (λ a. end))
+
+ways_of : (ns : Names) (w : What) → WayOf ns w (form ns w)
+unfolding form
+ways_of ns Consts = other end
+ways_of ns (Stars must) = way_stars ns must
+ways_of ns (TypeRest u t must) = by_text refl (λ v. by_text refl (λ s. end))
+ways_of ns (AnyType anyhow object) = other (by_token (word_kind keyword.Int) refl (by_text refl (λ c. end)))
+ways_of ns (Value k) = by_text refl (λ r. end)
+ways_of ns (Choosing k) = by_text refl (λ o. by_text refl (λ r. end))
+ways_of ns (ChoosingTail k a) = by_text refl (λ t. other end)
+ways_of ns (Upto l k a) = way_upto ns l k a
+ways_of ns (Links l k) = other end
+ways_of ns (Operand l k) = way_operand ns l k
+ways_of ns (Prefixed true) = other (other (by_text refl (λ a. end)))
+ways_of ns (Prefixed false) = other (other (other (by_text refl (λ a. by_text refl (λ xs. end)))))
+ways_of ns Place = other (other (by_text refl (λ a. by_text refl (λ xs. end))))
+ways_of ns Postfixed = other (by_text refl (λ a. by_text refl (λ xs. end)))
+ways_of ns (Primary k) = other (one (by_token (kind a_number) refl end))
+ways_of ns (Suffixes dot must) = way_suffixes ns dot must
+ways_of ns Arguments = other end
+ways_of ns MoreArguments = other end
+
+suited_part : (ns : Names) (w : What) → Suited ns w
+suited_part ns Consts = fit_consts ns
+suited_part ns (Stars must) = fit_stars ns must
+suited_part ns (TypeRest u t must) = fit_type_rest ns u t must
+suited_part ns (AnyType anyhow object) = fit_any_type ns anyhow object
+suited_part ns (Value k) = fit_value ns k
+suited_part ns (Choosing k) = fit_choosing ns k
+suited_part ns (ChoosingTail k a) = fit_choosing_tail ns k a
+suited_part ns (Upto l k a) = fit_upto ns l k a
+suited_part ns (Links l k) = fit_links ns l k
+suited_part ns (Operand l k) = fit_operand ns l k
+suited_part ns (Prefixed k) = fit_prefixed ns k
+suited_part ns Place = fit_place ns
+suited_part ns Postfixed = fit_postfixed ns
+suited_part ns (Primary k) = fit_primary ns k
+suited_part ns (Suffixes dot must) = fit_suffixes ns dot must
+suited_part ns Arguments = fit_arguments ns
+suited_part ns MoreArguments = fit_more_arguments ns
+
+level_low : (l : Level) → suc (level_number l) ≤ 14
+level_low level.Product = omega arith
+level_low _ = omega arith
+
+low : (w : What) → rank_of w ≤ 14
+low (Upto l k a) = level_low l
+low Consts = omega arith
+low _ = omega arith
+
+pub predictive : IsPredictive C forms tables
+predictive = record {
+  fits = λ (p : Part). (suited_part p.names p.what).fits;
+  opens = λ (p : Part). (suited_part p.names p.what).opening;
+  some = some_text C forms (λ (p : Part). cost_of p.what) sample is_sample (λ (p : Part). ways_of p.names p.what);
+  low = λ (p : Part). low p.what;
+}

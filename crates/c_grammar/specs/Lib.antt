@@ -1,0 +1,6 @@
+pub mod Sorts
+pub mod Parts
+pub mod Tests
+pub mod Trees
+pub mod Grammar
+pub mod Tables

@@ -1,0 +1,89 @@
+-- The parts of a text, and what tree each has.
+--
+-- How the dialect is told as data. What a name may begin is told by its role among the names in scope, and declarations change these. So a part is
+-- what is read and the names that are in scope there, and the tests of its form look at a token's class among these names. Only parts of blocks and
+-- items go on under other names than those of the part that they stand in. A token's kind is the token without its place.
+--
+-- What rests on a tree that was read is a choice of the next token: `.` behind a value that is no place is not read (`Suffixes`); behind `&` stands a
+-- part of its own (`Place`), in which a suffix must follow what is no place itself; and behind `void`, where nothing but an object can stand, a `*`
+-- must follow (`TypeRest`). Where several parts begin alike, what follows their common beginning is a part: what follows an operand of a chain
+-- (`Upto`, `ChoosingTail`).
+--
+-- The level of a token is how many brackets and `?` are open behind it, so that 65 levels are what `is_shallow` allows.
+use Rattle.std.specs.Prelude.{ℕ, Bool, List}
+use Rattle.c_tree.specs.declared.names.CType.{CType}
+use Rattle.c_tree.specs.declared.operators.Level.{Level}
+use Rattle.c_tree.specs.declared.operators.PrefixOperator.{PrefixOperator}
+use Rattle.c_tree.specs.declared.code.Expr.{Expr}
+use Rattle.c_tree.specs.declared.code.Link.{Link}
+use Rattle.c_tree.specs.declared.code.Choice.{Choice}
+use Rattle.c_tree.specs.declared.code.Suffix.{Suffix}
+use Rattle.c_tree.specs.Words.{Token, Word}
+use Rattle.c_tree.specs.Names.{Names}
+
+-- What is read. Some go on with what was read before them: it stands in brackets.
+pub data What : Type 0 where
+  -- any number of `const`
+  Consts : What
+  -- any number of `*`, each with any number of `const` behind it; one at least or not
+  Stars : Bool → What
+  -- what follows these `const` and this base of a type; a `*` must or not
+  TypeRest : Word → Token → Bool → What
+  -- a type; whether an undeclared name is one; whether it must be one that something can have
+  AnyType : Bool → Bool → What
+  -- the parts of values, as a constant or not
+  Value : Bool → What
+  -- `a ? b : c ? d : e`; what follows this first operand of it
+  Choosing : Bool → What
+  ChoosingTail : Bool → Expr → What
+  -- what follows this operand of chains up to a level
+  Upto : Level → Bool → Expr → What
+  -- what follows the first operand of a chain of a level; an operand of it
+  Links : Level → Bool → What
+  Operand : Level → Bool → What
+  -- operators before an operand, and the operand; the same where it must be a place
+  Prefixed : Bool → What
+  Place : What
+  -- an operand without operators before it
+  Postfixed : What
+  -- the same without brackets around it and without suffixes
+  Primary : Bool → What
+  -- suffixes; whether the first may be `.`; whether there must be one
+  Suffixes : Bool → Bool → What
+  -- the values between the brackets of a call, and those behind the first
+  Arguments : What
+  MoreArguments : What
+
+-- Stars as they are written, and how many they are.
+pub record Starred : Type 0 where
+  pub word : Word
+  pub stars : ℕ
+
+-- what it is read as
+abbrev pub tree_of : What → Type 0
+tree_of Consts = Word
+tree_of (Stars must) = Starred
+tree_of (TypeRest u t must) = CType
+tree_of (AnyType anyhow object) = CType
+tree_of (Value c) = Expr
+tree_of (Choosing c) = List Choice × Expr
+tree_of (ChoosingTail c a) = List Choice × Expr
+tree_of (Upto l c a) = Expr
+tree_of (Links l c) = List Link
+tree_of (Operand l c) = Expr
+tree_of (Prefixed c) = List PrefixOperator × Expr
+tree_of Place = List PrefixOperator × Expr
+tree_of Postfixed = Expr
+tree_of (Primary c) = Expr
+tree_of (Suffixes dot must) = List Suffix
+tree_of Arguments = List Expr
+tree_of MoreArguments = List Expr
+
+-- A part: what is read, and the names in scope.
+pub record Part : Type 0 where
+  pub names : Names
+  pub what : What
+
+-- what is read among these names
+abbrev pub at : Names → What → Part
+at ns w = record { names = ns; what = w }

@@ -1,0 +1,116 @@
+-- What is said of the parts, for reading them by one token of lookahead.
+use Rattle.std.specs.Prelude.{◌≡◌, ℕ, suc, not, Bool, true, false, ◌&&◌, ◌||◌, List, [], ◌∷◌, Option, Some, None}
+use Rattle.predictive_grammar.specs.Fit.{Tables}
+use Rattle.c_lexer.specs.declared.token.Keyword.TheVariants as keyword
+use Rattle.c_lexer.specs.declared.token.Sign.TheVariants as sign
+use Rattle.c_tree.specs.declared.operators.Level.{Level}
+use Rattle.c_tree.specs.declared.operators.Level.TheVariants as level
+use Rattle.c_tree.specs.Values.{tighter}
+use Rattle.c_grammar.specs.Sorts.{Kind, on}
+use Rattle.c_grammar.specs.Tests.{Set, sign_is, word_is, begins_type, links, links_up_to, level_number, begins_primary, begins_postfixed, begins_prefixed, begins_place, begins_suffix}
+use Rattle.c_grammar.specs.Trees.{type_of, no_stars}
+use Rattle.c_grammar.specs.Parts.{What, Part, tree_of, Consts, Stars, TypeRest, AnyType, Value, Choosing, ChoosingTail, Upto, Links, Operand, Prefixed, Place, Postfixed, Primary, Suffixes, Arguments, MoreArguments}
+use Rattle.c_grammar.specs.Grammar.{C}
+
+-- what follows the bases of types
+abbrev pub goes_on_type : Set
+goes_on_type c = sign_is sign.Star c || word_is keyword.Const c
+
+-- what goes on with an operand: suffixes and signs between operands, up to a level
+abbrev pub goes_on_upto : Level → Set
+goes_on_upto l c = begins_suffix true c || links_up_to l c
+
+-- what goes on with a value
+abbrev pub goes_on_value : Set
+goes_on_value c = goes_on_upto level.Or c || sign_is sign.Question c
+
+-- the tokens that are not of the set
+abbrev pub but : Set → Set
+but f c = not (f c)
+
+-- which classes begin a text of a part that has tokens
+abbrev pub first_of : What → Set
+first_of Consts c = word_is keyword.Const c
+first_of (Stars must) c = sign_is sign.Star c
+first_of (TypeRest u t must) c = goes_on_type c
+first_of (AnyType anyhow object) c = begins_type anyhow c
+first_of (Value k) c = begins_prefixed k c
+first_of (Choosing k) c = begins_prefixed k c
+first_of (ChoosingTail k a) c = links_up_to level.Or c || sign_is sign.Question c
+first_of (Upto l k a) c = links_up_to l c
+first_of (Links l k) c = links l c
+first_of (Operand l k) c = begins_prefixed k c
+first_of (Prefixed k) c = begins_prefixed k c
+first_of Place c = begins_place c
+first_of Postfixed c = begins_postfixed c
+first_of (Primary k) c = begins_primary k c
+first_of (Suffixes dot must) c = begins_suffix dot c
+first_of Arguments c = begins_prefixed false c
+first_of MoreArguments c = sign_is sign.Comma c
+
+-- which it surely takes: all of these, but where it may be empty
+abbrev pub opens_of : What → Set
+opens_of (TypeRest u t must) c = false
+opens_of (ChoosingTail k a) c = false
+opens_of (Upto l k a) c = false
+opens_of w c = first_of w c
+
+-- which tree it has where it is empty
+abbrev pub none_of : (w : What) → tree_of w → Type 0
+none_of Consts x = x ≡ []
+none_of (Stars false) x = x ≡ no_stars
+none_of (TypeRest u t false) x = x ≡ type_of u t [] no_stars
+none_of (ChoosingTail k a) x = x ≡ ([], a)
+none_of (Upto l k a) x = x ≡ a
+none_of (Links l k) x = x ≡ []
+none_of (Suffixes dot false) x = x ≡ []
+none_of Arguments x = x ≡ []
+none_of MoreArguments x = x ≡ []
+none_of w x = ⊥
+
+-- in front of which classes it ends
+abbrev pub stop_of : What → Set
+stop_of Consts c = not (word_is keyword.Const c)
+stop_of (Stars must) c = not (goes_on_type c)
+stop_of (TypeRest u t must) c = not (goes_on_type c)
+stop_of (AnyType anyhow object) c = not (goes_on_type c)
+stop_of (Value k) c = not (goes_on_value c)
+stop_of (Choosing k) c = not (goes_on_value c)
+stop_of (ChoosingTail k a) c = not (goes_on_value c)
+stop_of (Upto l k a) c = not (goes_on_upto l c)
+stop_of (Links l k) c = not (goes_on_upto l c)
+stop_of (Operand l k) c = not (begins_suffix true c) && (not (links_up_to l c) || links l c)
+stop_of (Prefixed k) c = not (begins_suffix true c)
+stop_of Place c = not (begins_suffix true c)
+stop_of Postfixed c = not (begins_suffix true c)
+stop_of (Primary k) c = true
+stop_of (Suffixes dot must) c = not (begins_suffix true c)
+stop_of Arguments c = sign_is sign.CloseParen c
+stop_of MoreArguments c = sign_is sign.CloseParen c
+
+-- how far a part stands above those that it asks for first
+abbrev pub rank_of : What → ℕ
+rank_of Consts = 0
+rank_of (Stars must) = 0
+rank_of (TypeRest u t must) = 1
+rank_of (AnyType anyhow object) = 2
+rank_of (Upto l k a) = suc (level_number l)
+rank_of (ChoosingTail k a) = 11
+rank_of Place = 3
+rank_of Postfixed = 3
+rank_of (Prefixed k) = 3
+rank_of (Operand l k) = 4
+rank_of (Choosing k) = 12
+rank_of (Value k) = 13
+rank_of Arguments = 14
+rank_of w = 0
+
+abbrev pub tables : Tables C
+tables = record {
+  first = λ (p : Part). on p.names (first_of p.what);
+  opens = λ (p : Part). on p.names (opens_of p.what);
+  none = λ (p : Part) (x : tree_of p.what). none_of p.what x;
+  stop = λ (p : Part) (x : tree_of p.what). on p.names (stop_of p.what);
+  rank = λ (p : Part). rank_of p.what;
+  top = 14;
+}

@@ -1,0 +1,132 @@
+-- The sets of tokens by which forms decide, by their classes.
+use Rattle.std.specs.Prelude.{ℕ, ◌==◌, nat_le, not, Bool, true, false, ◌&&◌, ◌||◌, List, [], ◌∷◌, Option, Some, None}
+use Rattle.c_lexer.specs.declared.token.Keyword.{Keyword}
+use Rattle.c_lexer.specs.declared.token.Keyword.TheVariants as keyword
+use Rattle.c_lexer.specs.declared.token.Sign.{Sign}
+use Rattle.c_lexer.specs.declared.token.Sign.TheVariants as sign
+use Rattle.c_tree.specs.declared.operators.BinaryOperator.{BinaryOperator}
+use Rattle.c_tree.specs.declared.operators.Level.{Level}
+use Rattle.c_tree.specs.declared.operators.Level.TheVariants as level
+use Rattle.c_tree.specs.declared.operators.Prefix.{Prefix}
+use Rattle.c_tree.specs.Kinds.{level_of}
+use Rattle.c_tree.specs.Names.{Role, FunctionName, MemberName}
+use Rattle.c_tree.specs.Types.{can_be_type}
+use Rattle.c_tree.specs.Values.{binary_of, prefix_of, is_variable}
+use Rattle.c_grammar.specs.Sorts.{Sort, Name, Number, Character, Text, Null, Capital, OfSign, OfWord, Class, same}
+
+-- a set of classes
+abbrev pub Set : Type 0
+Set = Class → Bool
+
+-- a sort
+abbrev pub is : Sort → Set
+is x c = same x c.sort
+
+-- a sign, and a keyword
+abbrev pub sign_is : Sign → Set
+sign_is s = is (OfSign s)
+
+-- a keyword
+abbrev pub word_is : Keyword → Set
+word_is w = is (OfWord w)
+
+-- a name of a role that passes the test
+abbrev pub name_with : (Role → Bool) → Set
+name_with test c = is Name c && test c.role
+
+-- the tokens of either set
+abbrev pub or_else : Set → Set → Set
+or_else f g c = f c || g c
+
+-- 1. Types
+
+-- the base of a type
+abbrev pub is_base : Bool → Set
+is_base anyhow c = word_is keyword.Void c || word_is keyword.Int c || word_is keyword.Char c || name_with (can_be_type anyhow) c
+
+-- what begins a type
+abbrev pub begins_type : Bool → Set
+begins_type anyhow c = word_is keyword.Const c || is_base anyhow c
+
+-- 2. Operators
+
+-- levels by number, the tightest first
+abbrev pub level_number : Level → ℕ
+level_number level.Product = 0
+level_number level.Sum = 1
+level_number level.Shift = 2
+level_number level.Relation = 3
+level_number level.Equality = 4
+level_number level.BitAnd = 5
+level_number level.BitXor = 6
+level_number level.BitOr = 7
+level_number level.And = 8
+level_number level.Or = 9
+
+-- an operator of a level
+abbrev pub is_of_level : Level → Option BinaryOperator → Bool
+is_of_level l None = false
+is_of_level l (Some o) = level_number (level_of o) == level_number l
+
+-- an operator of a level that is no looser
+abbrev pub is_up_to_level : Level → Option BinaryOperator → Bool
+is_up_to_level l None = false
+is_up_to_level l (Some o) = nat_le (level_number (level_of o)) (level_number l)
+
+-- a sign that passes the test
+abbrev pub sign_with : (Sign → Bool) → Sort → Bool
+sign_with test (OfSign s) = test s
+sign_with test x = false
+
+-- a sign between operands of a level
+abbrev pub links : Level → Set
+links l c = sign_with (λ s. is_of_level l (binary_of s)) c.sort
+
+-- a sign between operands of a level or a tighter one
+abbrev pub links_up_to : Level → Set
+links_up_to l c = sign_with (λ s. is_up_to_level l (binary_of s)) c.sort
+
+-- whether there is one
+abbrev pub is_there : {A : Type 0} → Option A → Bool
+is_there None = false
+is_there (Some a) = true
+
+-- a sign before an operand, but for `&`
+abbrev pub is_prefix : Bool → Set
+is_prefix constant c = sign_with (λ s. is_there (prefix_of constant s)) c.sort && not (sign_is sign.Ampersand c)
+
+-- 3. Operands
+
+-- the name of a value
+abbrev pub is_value_role : Bool → Role → Bool
+is_value_role constant FunctionName = true
+is_value_role constant MemberName = true
+is_value_role constant r = is_variable constant r
+
+-- a number, a character, a text or a capital name
+abbrev pub is_literal : Set
+is_literal c = is Number c || is Character c || is Text c || is Null c || is Capital c
+
+-- what a value begins with that has no operator and no bracket in front
+abbrev pub begins_primary : Bool → Set
+begins_primary constant c = name_with (is_value_role constant) c || is_literal c || word_is keyword.Sizeof c || word_is keyword.StructOffset c
+
+-- what an operand begins with
+abbrev pub begins_postfixed : Set
+begins_postfixed c = sign_is sign.OpenParen c || begins_primary false c
+
+-- what an operand with operators before it begins with
+abbrev pub begins_prefixed : Bool → Set
+begins_prefixed constant c = is_prefix constant c || (not constant && sign_is sign.Ampersand c) || sign_is sign.OpenParen c || begins_primary constant c
+
+-- what a place begins with
+abbrev pub begins_place : Set
+begins_place c = sign_is sign.Star c || begins_postfixed c
+
+-- `->`, and `.` where it may stand
+abbrev pub is_field : Bool → Set
+is_field dot c = sign_is sign.Arrow c || (dot && sign_is sign.Dot c)
+
+-- what suffixes begin with
+abbrev pub begins_suffix : Bool → Set
+begins_suffix dot c = sign_is sign.OpenBracket c || is_field dot c
