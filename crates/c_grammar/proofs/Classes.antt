@@ -42,7 +42,7 @@ role_number MemberName = 7
 role_number Unknown = 8
 
 -- the item at a place, or this
-abbrev item_at : {A : Type 0} → A → List A → ℕ → A
+abbrev pub item_at : {A : Type 0} → A → List A → ℕ → A
 item_at d [] n = d
 item_at d (x ∷ xs) zero = x
 item_at d (x ∷ xs) (suc n) = item_at d xs n

@@ -7,3 +7,8 @@ pub mod FitTypes
 pub mod FitChains
 pub mod FitOperands
 pub mod Predictive
+pub mod Told
+pub mod Tokens
+pub mod Meaning
+pub mod SoundTypes
+pub mod SoundValues

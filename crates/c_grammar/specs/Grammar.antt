@@ -68,7 +68,7 @@ just ns w f = here ns w (λ a. give (f a))
 
 -- the base of a type behind these `const`, and what follows it
 abbrev pub base_behind : {r : Part} → Names → Bool → Bool → Word → (tree_of (AnyType false false) → tree_of r.what) → Form C r
-base_behind ns anyhow object u f = token ns (is_base anyhow) (λ t. just ns (TypeRest u t (object && is_void t.terminal)) f)
+base_behind ns anyhow object u f = token ns (is_base anyhow) (λ t. just ns (TypeRest u t (object && is_void t)) f)
 
 -- suffixes behind a value, where it is no constant
 abbrev pub suffixes_behind : {r : Part} → Names → Bool → Expr → (Expr → tree_of r.what) → Form C r

@@ -19,6 +19,7 @@ use Rattle.c_tree.specs.declared.code.Suffix.{Suffix}
 use Rattle.c_tree.specs.declared.code.Suffix.TheVariants as suffix
 use Rattle.c_tree.specs.Words.{Terminal, Of, Token, Word, at, join, extent}
 use Rattle.c_tree.specs.Names.{Names, Role, FunctionName, MemberName, role_of}
+use Rattle.c_tree.specs.Types.{is_void_base}
 use Rattle.c_tree.specs.Values.{binary_of, prefix_of}
 use Rattle.c_tree.specs.Make.{name_at, expr, prefixed}
 use Rattle.c_grammar.specs.Parts.{Starred}
@@ -37,14 +38,17 @@ base_in (Of (k.Keyword keyword.Int)) n = base.Int
 base_in (Of (k.Keyword keyword.Char)) n = base.Char
 base_in t n = base.Named n
 
--- whether a token is `void`
-abbrev pub is_void : Terminal → Bool
-is_void (Of (k.Keyword keyword.Void)) = true
-is_void t = false
+-- the base that a token is
+abbrev pub base_of : Token → Base
+base_of t = base_in t.terminal (name_at t)
+
+-- whether it is `void`
+abbrev pub is_void : Token → Bool
+is_void t = is_void_base (base_of t)
 
 -- the type of a base with what stands in front of it and behind
 abbrev pub type_of : Word → Token → Word → Starred → CType
-type_of u t v s = record { base = base_in t.terminal (name_at t); is_const = is_some_word u || is_some_word v; stars = s.stars; span = extent (u ++ t ∷ v ++ s.word) }
+type_of u t v s = record { base = base_of t; is_const = is_some_word u || is_some_word v; stars = s.stars; span = extent (u ++ t ∷ v ++ s.word) }
 
 -- no stars
 abbrev pub no_stars : Starred
