@@ -12,3 +12,5 @@ pub mod Tokens
 pub mod Meaning
 pub mod SoundTypes
 pub mod SoundValues
+pub mod FindTypes
+pub mod FindValues
