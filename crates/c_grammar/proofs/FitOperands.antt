@@ -13,7 +13,7 @@ use Rattle.c_tree.specs.Words as words
 use Rattle.c_tree.specs.Words.{join}
 use Rattle.c_tree.specs.Values.{is_place}
 use Rattle.c_grammar.specs.Trees.{sign_prefix, cast_prefix, one_prefix, name_value, literal, size_of, offset, field_suffix, index_suffix}
-use Rattle.c_grammar.specs.Parts.{What, tree_of, Value, Prefixed, Place, Postfixed, Primary, Suffixes, Arguments, MoreArguments}
+use Rattle.c_grammar.specs.Parts.{What, tree_of, Value, Prefixed, Place, Primary, Unnamed, Suffixes, Arguments, MoreArguments}
 use Rattle.c_grammar.specs.Grammar.{just, form, index_behind, cast_or_operand}
 use Rattle.c_grammar.specs.Tables.{stop_of}
 use Rattle.c_grammar.proofs.Classes.{is_within}
@@ -48,26 +48,25 @@ fit_suffixes ns false false = suited ns (Suffixes false false)
     (where_fits ns (is_field false) (a_sign sign.Arrow) refl (λ t. token ns (is Name) a_name refl (λ n. text ns refl (λ xs. done ns (field_suffix t.terminal (name_at n) ∷ xs)) (λ xs. refl) (λ xs. refl)))
     (choice ns (sign_is sign.OpenBracket) (fit_index ns false false) (done ns []) refl refl refl refl) refl refl) refl (λ a e. e) refl
 
+pub fit_unnamed : (ns : Names) → Suited ns Unnamed
+unfolding form
+fit_unnamed ns = suited ns Unnamed
+    (where_fits ns is_literal a_number refl (λ t. done ns (literal t))
+    (where_fits ns (word_is keyword.Sizeof) (a_word keyword.Sizeof) refl
+        (λ t. token ns (sign_is sign.OpenParen) (a_sign sign.OpenParen) refl (λ p. text ns refl (λ y. token ns (sign_is sign.CloseParen) (a_sign sign.CloseParen) refl (λ s. done ns (size_of t y s))) (λ y. refl) (λ y. tt)))
+    (token ns (word_is keyword.StructOffset) (a_word keyword.StructOffset) refl
+        (λ t. token ns (sign_is sign.OpenParen) (a_sign sign.OpenParen) refl (λ p. text ns refl (λ y. token ns (sign_is sign.Comma) (a_sign sign.Comma) refl (λ m. token ns (is Name) a_name refl
+            (λ n. token ns (sign_is sign.CloseParen) (a_sign sign.CloseParen) refl (λ s. done ns (offset t y n s))))) (λ y. refl) (λ y. tt))))
+    refl tt) refl tt) refl (λ a e. e) refl
+
 pub fit_primary : (ns : Names) (k : Bool) → Suited ns (Primary k)
 unfolding form
 fit_primary ns true = suited ns (Primary true)
-    (where_fits ns (name_with (is_value_role true)) (an_unknown ns) (by_unknown ns (name_with (is_value_role true)) refl) (λ t. done ns (name_value ns t))
-    (where_fits ns is_literal a_number refl (λ t. done ns (literal t))
-    (where_fits ns (word_is keyword.Sizeof) (a_word keyword.Sizeof) refl
-        (λ t. token ns (sign_is sign.OpenParen) (a_sign sign.OpenParen) refl (λ p. text ns refl (λ y. token ns (sign_is sign.CloseParen) (a_sign sign.CloseParen) refl (λ s. done ns (size_of t y s))) (λ y. refl) (λ y. tt)))
-    (token ns (word_is keyword.StructOffset) (a_word keyword.StructOffset) refl
-        (λ t. token ns (sign_is sign.OpenParen) (a_sign sign.OpenParen) refl (λ p. text ns refl (λ y. token ns (sign_is sign.Comma) (a_sign sign.Comma) refl (λ m. token ns (is Name) a_name refl
-            (λ n. token ns (sign_is sign.CloseParen) (a_sign sign.CloseParen) refl (λ s. done ns (offset t y n s))))) (λ y. refl) (λ y. tt))))
-    refl tt) refl tt) refl tt) refl (λ a e. e) refl
+    (where_fits ns (name_with (is_value_role true)) (an_unknown ns) (by_unknown ns (name_with (is_value_role true)) refl) (λ t. done ns (name_value ns t)) (text ns refl (λ a. done ns a) (λ a. refl) (λ a. refl)) refl tt)
+    refl (λ a e. e) refl
 fit_primary ns false = suited ns (Primary false)
-    (where_fits ns (name_with (is_value_role false)) (an_unknown ns) (by_unknown ns (name_with (is_value_role false)) refl) (λ t. done ns (name_value ns t))
-    (where_fits ns is_literal a_number refl (λ t. done ns (literal t))
-    (where_fits ns (word_is keyword.Sizeof) (a_word keyword.Sizeof) refl
-        (λ t. token ns (sign_is sign.OpenParen) (a_sign sign.OpenParen) refl (λ p. text ns refl (λ y. token ns (sign_is sign.CloseParen) (a_sign sign.CloseParen) refl (λ s. done ns (size_of t y s))) (λ y. refl) (λ y. tt)))
-    (token ns (word_is keyword.StructOffset) (a_word keyword.StructOffset) refl
-        (λ t. token ns (sign_is sign.OpenParen) (a_sign sign.OpenParen) refl (λ p. text ns refl (λ y. token ns (sign_is sign.Comma) (a_sign sign.Comma) refl (λ m. token ns (is Name) a_name refl
-            (λ n. token ns (sign_is sign.CloseParen) (a_sign sign.CloseParen) refl (λ s. done ns (offset t y n s))))) (λ y. refl) (λ y. tt))))
-    refl tt) refl tt) refl tt) refl (λ a e. e) refl
+    (where_fits ns (name_with (is_value_role false)) (an_unknown ns) (by_unknown ns (name_with (is_value_role false)) refl) (λ t. done ns (name_value ns t)) (text ns refl (λ a. done ns a) (λ a. refl) (λ a. refl)) refl tt)
+    refl (λ a e. e) refl
 
 fit_operand_true : (ns : Names) → Suits ns (Prefixed true) false (either (sign_is sign.OpenParen) (either (begins_primary true) nothing)) never (by_other (sign_is sign.OpenParen) (begins_primary true)) (cast_or_operand ns true)
 fit_operand_true ns =
@@ -103,13 +102,6 @@ fit_place ns = suited ns Place
     (where_fits ns (sign_is sign.OpenParen) (a_sign sign.OpenParen) refl
         (λ t. text ns refl (λ a. token ns (sign_is sign.CloseParen) (a_sign sign.CloseParen) refl (λ s. fit_suffixes_behind ns _ _ (λ b. ([], b)) (bracketed (join (words.at t) (words.at s)) a) refl)) (λ a. refl) (λ a. tt))
     (text ns refl (λ a. fit_suffixes_behind ns _ _ (λ b. ([], b)) a refl) (λ a. refl) (λ a b. refl)) refl tt) refl tt) refl (λ a e. e) refl
-
-pub fit_postfixed : (ns : Names) → Suited ns Postfixed
-unfolding form
-fit_postfixed ns = suited ns Postfixed
-    (where_fits ns (sign_is sign.OpenParen) (a_sign sign.OpenParen) refl
-        (λ t. text ns refl (λ a. token ns (sign_is sign.CloseParen) (a_sign sign.CloseParen) refl (λ s. fit_suffixes_behind ns _ _ (λ b. b) (bracketed (join (words.at t) (words.at s)) a) refl)) (λ a. refl) (λ a. tt))
-    (text ns refl (λ a. fit_suffixes_behind ns _ _ (λ b. b) a refl) (λ a. refl) (λ a b. refl)) refl tt) refl (λ a e. e) refl
 
 pub fit_arguments : (ns : Names) → Suited ns Arguments
 unfolding form

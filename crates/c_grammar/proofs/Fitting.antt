@@ -1,6 +1,6 @@
 -- Forms among some names that suit the tables, put together from below: what a form begins with, which trees it has without tokens, and what it
 -- surely takes follow from its parts. The conditions are computed on classes.
-use Rattle.std.proofs.Common.{◌≡◌, ℕ, Bool, true, false, if◌then◌else◌, nat_lt, refl, sym, ap, subst, ◌∙◌, inl, inr, true≢false, ltb-true}
+use Rattle.std.proofs.Common.{◌≡◌, ℕ, Bool, true, false, ◌||◌, if◌then◌else◌, nat_lt, refl, sym, ap, subst, ◌∙◌, inl, inr, true≢false, ltb-true}
 use Rattle.predictive_grammar.specs.Forms.{Form, give, take, part, pick}
 use Rattle.predictive_grammar.specs.Fit.{Falls, Opens, opens_take, opens_part, opens_first, opens_second, Fit, gives, takes, reads, reads_none, picks, bars}
 use Rattle.predictive_grammar.proofs.Sets.{or_left, or_right}
@@ -32,10 +32,6 @@ module _ (ns : Names) where
     pub fit : Fit C tables (at ns r) moved (on ns f) (Among z) form
     pub opens : (x : Kind) → on ns o x ≡ true → Opens C tables (at ns r) x form
 
-  falls_is : (moved : Bool) (r q : What) → falls moved r q ≡ true → Falls tables moved (at ns r) (at ns q)
-  falls_is true r q e = inl refl
-  falls_is false r q e = inr (ltb-true (rank_of q) (rank_of r) e)
-
   -- what fits, fits with more kinds to begin with and more trees without tokens
   fit_more : {r : What} {moved : Bool} {f h : Kind → Bool} {z y : tree_of r → Type 0} {form : Form C (at ns r)} → Fit C tables (at ns r) moved f z form → ((x : Kind) → f x ≡ true → h x ≡ true)
       → ((a : tree_of r) → z a → y a) → Fit C tables (at ns r) moved h y form
@@ -65,30 +61,43 @@ module _ (ns : Names) where
       (x : Token) → on ns test (kind x) ≡ true → ((t : Token) → on ns test (kind t) ≡ true → Suits r true (f t) (z t) (o t) (k t)) → Suits r moved test never test (take up items (on ns test) k)
   token_of test {f = f} {z = z} x e rest = record { fit = takes x e (λ x i. i) (λ t. on ns (f t)) (λ t. Among (z t)) (λ t i. (rest t i).fit); opens = λ x i. opens_take i }
 
-  module _ (r q : What) (moved : Bool) (up : ℕ → ℕ) (k : tree_of q → Form C (at ns r)) (f o : tree_of q → Set) (z : tree_of q → Nones (tree_of r))
-      (fall : falls moved r q ≡ true) (st : (b : tree_of q) → is_within (f b) (stop_of q) ≡ true) (stops : (b : tree_of q) → Each (z b) (λ a. is_within (stop_of r) (stop_of q) ≡ true)) where
-    ended : (b : tree_of q) (x : Kind) → on ns (f b) x ≡ true → on ns (stop_of q) x ≡ true
-    ended b = within ns (f b) (stop_of q) (st b)
+  -- what is said of a part under other names is said in these
+  pub record Agrees (ms : Names) (q : What) : Type 0 where
+    pub first : (x : Kind) → on ms (first_of q) x ≡ on ns (first_of q) x
+    pub stop : (x : Kind) → on ms (stop_of q) x ≡ on ns (stop_of q) x
+    pub opens : (x : Kind) → on ms (opens_of q) x ≡ on ns (opens_of q) x
 
-    stopped : (b : tree_of q) (a : tree_of r) → Among (z b) a → (x : Kind) → on ns (stop_of r) x ≡ true → on ns (stop_of q) x ≡ true
-    stopped b a i = within ns (stop_of r) (stop_of q) (each_at (z b) (λ a. is_within (stop_of r) (stop_of q) ≡ true) (stops b) a i)
+  falls_under : (ms : Names) (moved : Bool) (r q : What) → falls moved r q ≡ true → Falls tables moved (at ns r) (at ms q)
+  falls_under ms true r q e = inl refl
+  falls_under ms false r q e = inr (ltb-true (rank_of q) (rank_of r) e)
+
+  module _ (ms : Names) (r q : What) (agrees : Agrees ms q) (moved : Bool) (up : ℕ → ℕ) (k : tree_of q → Form C (at ns r)) (f o : tree_of q → Set) (z : tree_of q → Nones (tree_of r))
+      (fall : falls moved r q ≡ true) (st : (b : tree_of q) → is_within (f b) (stop_of q) ≡ true) (stops : (b : tree_of q) → Each (z b) (λ a. is_within (stop_of r) (stop_of q) ≡ true)) where
+    ended : (b : tree_of q) (x : Kind) → on ns (f b) x ≡ true → on ms (stop_of q) x ≡ true
+    ended b x i = agrees.stop x ∙ within ns (f b) (stop_of q) (st b) x i
+
+    stopped : (b : tree_of q) (a : tree_of r) → Among (z b) a → (x : Kind) → on ns (stop_of r) x ≡ true → on ms (stop_of q) x ≡ true
+    stopped b a i x j = agrees.stop x ∙ within ns (stop_of r) (stop_of q) (each_at (z b) (λ a. is_within (stop_of r) (stop_of q) ≡ true) (stops b) a i) x j
+
+    begins : (g : Set) (x : Kind) → on ms (first_of q) x ≡ true → (on ns (first_of q) x || on ns g x) ≡ true
+    begins g x i = or_left (on ns (first_of q) x) (on ns g x) (sym (agrees.first x) ∙ i)
 
     -- the part's empty texts have one of these trees
     text_by : (n : Nones (tree_of q)) → ((b : tree_of q) → none_of q b → Among n b) → ((b : tree_of q) → Suits r (behind n moved) (f b) (z b) (o b) (k b))
-        → Suits r moved (either (first_of q) (begun n f)) (joined n z) (opens_of q) (part up (at ns q) k)
+        → Suits r moved (either (first_of q) (begun n f)) (joined n z) (opens_of q) (part up (at ms q) k)
     text_by never is rest = record {
-      fit = reads (falls_is moved r q fall) is (λ x i. or_left (on ns (first_of q) x) false i) (λ b. on ns (f b)) (λ b. Among (z b)) (λ b. (rest b).fit) ended stopped;
-      opens = λ x i. opens_part i;
+      fit = reads (falls_under ms moved r q fall) is (begins nothing) (λ b. on ns (f b)) (λ b. Among (z b)) (λ b. (rest b).fit) ended stopped;
+      opens = λ x i. opens_part (agrees.opens x ∙ i);
     }
     text_by (only c) is rest = record {
-      fit = reads_none (falls_is moved r q fall) (λ x i. or_left (on ns (first_of q) x) (on ns (f c) x) i) (λ b. on ns (f b)) (λ b. Among (z b)) (λ b. (rest b).fit)
+      fit = reads_none (falls_under ms moved r q fall) (begins (f c)) (λ b. on ns (f b)) (λ b. Among (z b)) (λ b. (rest b).fit)
           (λ b n x i. or_right (on ns (first_of q) x) (on ns (f c) x) (ap (λ (d : tree_of q). on ns (f d) x) (sym (is b n)) ∙ i)) (λ b a n i. subst (λ (d : tree_of q). Among (z d) a) (is b n) i) ended stopped;
-      opens = λ x i. opens_part i;
+      opens = λ x i. opens_part (agrees.opens x ∙ i);
     }
     text_by maybe is rest = record {
-      fit = reads_none (falls_is moved r q fall) (λ x i. or_left (on ns (first_of q) x) true i) (λ b. on ns (f b)) (λ b. Among (z b)) (λ b. (rest b).fit)
+      fit = reads_none (falls_under ms moved r q fall) (begins (λ c. true)) (λ b. on ns (f b)) (λ b. Among (z b)) (λ b. (rest b).fit)
           (λ b n x i. or_right (on ns (first_of q) x) true refl) (λ b a n i. tt) ended stopped;
-      opens = λ x i. opens_part i;
+      opens = λ x i. opens_part (agrees.opens x ∙ i);
     }
 
   -- A part, and the rest: the part falls in rank, or a token was taken before; it ends in front of what the rest begins with, and in front of
@@ -97,7 +106,15 @@ module _ (ns : Names) where
       → ((b : tree_of q) → Suits r (behind (nones q) moved) (f b) (z b) (o b) (k b)) → ((b : tree_of q) → is_within (f b) (stop_of q) ≡ true)
       → ((b : tree_of q) → Each (z b) (λ a. is_within (stop_of r) (stop_of q) ≡ true))
       → Suits r moved (either (first_of q) (begun (nones q) f)) (joined (nones q) z) (opens_of q) (part up (at ns q) k)
-  text {r = r} {q = q} {moved = moved} {up = up} {k = k} {f = f} {o = o} {z = z} fall rest st stops = text_by r q moved up k f o z fall st stops (nones q) (means q) rest
+  text {r = r} {q = q} {moved = moved} {up = up} {k = k} {f = f} {o = o} {z = z} fall rest st stops =
+      text_by ns r q (record { first = λ x. refl; stop = λ x. refl; opens = λ x. refl }) moved up k f o z fall st stops (nones q) (means q) rest
+
+  -- the same under other names
+  pub text_under : (ms : Names) {r q : What} {moved : Bool} {up : ℕ → ℕ} {k : tree_of q → Form C (at ns r)} {f o : tree_of q → Set} {z : tree_of q → Nones (tree_of r)} → Agrees ms q → falls moved r q ≡ true
+      → ((b : tree_of q) → Suits r (behind (nones q) moved) (f b) (z b) (o b) (k b)) → ((b : tree_of q) → is_within (f b) (stop_of q) ≡ true)
+      → ((b : tree_of q) → Each (z b) (λ a. is_within (stop_of r) (stop_of q) ≡ true))
+      → Suits r moved (either (first_of q) (begun (nones q) f)) (joined (nones q) z) (opens_of q) (part up (at ms q) k)
+  text_under ms {r = r} {q = q} {moved = moved} {up = up} {k = k} {f = f} {o = o} {z = z} agrees fall rest st stops = text_by ms r q agrees moved up k f o z fall st stops (nones q) (means q) rest
 
   -- the way of a token, or the other
   pub choice : {r : What} {moved : Bool} (test : Set) {f h o p : Set} {a b : Form C (at ns r)} {z : Nones (tree_of r)} → Suits r moved f never o a → Suits r moved h z p b

@@ -6,11 +6,11 @@ pub mod Fitting
 pub mod FitTypes
 pub mod FitChains
 pub mod FitOperands
+pub mod FitStatements
 pub mod Predictive
 pub mod Told
 pub mod Tokens
 pub mod Meaning
 pub mod SoundTypes
 pub mod SoundValues
-pub mod FindTypes
-pub mod FindValues
+pub mod SoundStatements

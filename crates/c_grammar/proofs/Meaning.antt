@@ -4,13 +4,19 @@ use Rattle.c_tree.specs.declared.operators.Level.TheVariants as level
 use Rattle.c_tree.specs.declared.names.CType.{CType}
 use Rattle.c_tree.specs.declared.code.Expr.{Expr}
 use Rattle.c_tree.specs.declared.code.Suffix.{Suffix, out-Suffix}
-use Rattle.c_tree.specs.Words.{Token, Word}
-use Rattle.c_tree.specs.Names.{Names}
-use Rattle.c_tree.specs.Types.{Consts as ReadsConsts, Stars as ReadsStars, BaseIs, ReadsType, is_object}
+use Rattle.c_lexer.specs.declared.token.Keyword.TheVariants as keyword
+use Rattle.c_lexer.specs.declared.token.Sign.TheVariants as sign
+use Rattle.c_tree.specs.declared.code.Local.{Local}
+use Rattle.c_tree.specs.declared.code.Case.{Case}
+use Rattle.c_tree.specs.declared.code.Stmt.{Stmt}
+use Rattle.c_tree.specs.Statements.{ReadsLocal, ReadsLocals, ReadsNumber, ReadsGoto, ReadsCases, ReadsPlace, ReadsStmt, ReadsStmts, ReadsBlock}
+use Rattle.c_tree.specs.Words.{Token, Word, IsSign, IsWord, IsName}
+use Rattle.c_tree.specs.Names.{Names, role_of, with_locals}
+use Rattle.c_tree.specs.Types.{can_be_type, Consts as ReadsConsts, Stars as ReadsStars, BaseIs, ReadsType, is_object}
 use Rattle.c_tree.specs.Values as v
 use Rattle.c_tree.specs.Values.{is_dot_layer, is_place}
 use Rattle.c_grammar.specs.Trees.{is_some_word, base_of, with_prefixes}
-use Rattle.c_grammar.specs.Parts.{What, Part, Starred, tree_of, at, Consts, Stars, TypeRest, AnyType, Value, Choosing, ChoosingTail, Upto, Links, Operand, Prefixed, Place, Postfixed, Primary, Suffixes, Arguments, MoreArguments}
+use Rattle.c_grammar.specs.Parts.{What, Part, Starred, tree_of, at, Consts, Stars, TypeRest, TypeMore, AnyType, Value, Choosing, ChoosingTail, Upto, Links, Operand, Prefixed, Place, Primary, Unnamed, Suffixes, Arguments, MoreArguments, KeyType, LocalOf, LocalRest, SignedNumberOf, GotoOf, Cases, BlockOf, Body, Statements, Statement, PlainStmt, NamedStmt, ValueStmt, Assigned, AssignedTail, ElseOf}
 use Rattle.c_grammar.specs.Grammar.{form}
 use Rattle.c_grammar.proofs.Told.{Meanings, Told}
 
@@ -56,10 +62,31 @@ pub record AreSuffixes (ns : Names) (dot must : Bool) (w : Word) (xs : List Suff
   pub starts : starts_well dot xs ≡ true
   pub some : IfMust must (is_some xs)
 
+-- the cases of a `switch` and its `default`
+pub record AreCases (w : Word) (x : List Case × Token) : Type 0 where
+  pub front : Word
+  pub last : Token
+  pub colon : Token
+  pub behind : Word
+  pub same : w ≡ front ++ (last ∷ colon ∷ behind)
+  pub cases : ReadsCases front x.0
+  pub is_default : IsWord last keyword.Default
+  pub is_colon : IsSign colon sign.Colon
+  pub goes : ReadsGoto behind x.1
+
+-- declarations, and then statements in their scope
+pub record IsBody (ns : Names) (w : Word) (x : List Local × List Stmt) : Type 0 where
+  pub front : Word
+  pub behind : Word
+  pub same : w ≡ front ++ behind
+  pub locals : ReadsLocals ns front x.0
+  pub statements : ReadsStmts (with_locals ns x.0) behind x.1
+
 abbrev pub Means : Names → (p : What) → Word → tree_of p → Type 0
 Means ns Consts w x = AreConsts w x
 Means ns (Stars must) w x = AreStars must w x
 Means ns (TypeRest u t must) w x = EndsType u t must w x
+Means ns (TypeMore t) w x = EndsType [] t false w x
 Means ns (AnyType anyhow object) w x = IsType ns anyhow object w x
 Means ns (Value k) w x = v.Reads ns k v.Value w x
 Means ns (Choosing k) w x = v.Reads ns k v.Choosing w x
@@ -69,11 +96,28 @@ Means ns (Links l k) w x = v.Reads ns k (v.Links l) w x
 Means ns (Operand l k) w x = v.Reads ns k (v.Operand l) w x
 Means ns (Prefixed k) w x = v.Reads ns k v.Prefixed w x
 Means ns Place w x = v.Reads ns false v.Prefixed w x × (is_place (with_prefixes x) ≡ true)
-Means ns Postfixed w x = v.Reads ns false v.Postfixed w x
 Means ns (Primary k) w x = v.Reads ns k v.Primary w x
+Means ns Unnamed w x = (k : Bool) → v.Reads ns k v.Primary w x
 Means ns (Suffixes dot must) w x = AreSuffixes ns dot must w x
 Means ns Arguments w x = v.Reads ns false v.Arguments w x
 Means ns MoreArguments w x = v.Reads ns false v.MoreArguments w x
+Means ns KeyType w x = IsType ns true true w x
+Means ns LocalOf w x = ReadsLocal ns w x
+Means ns (LocalRest t) w x = IsName t → can_be_type true (role_of ns t.bytes) ≡ true → ReadsLocal ns (t ∷ w) x
+Means ns SignedNumberOf w x = ReadsNumber w x
+Means ns GotoOf w x = ReadsGoto w x
+Means ns Cases w x = AreCases w x
+Means ns BlockOf w x = ReadsBlock ns w x
+Means ns Body w x = IsBody ns w x
+Means ns Statements w x = ReadsStmts ns w x
+Means ns Statement w x = ReadsStmt ns w x
+Means ns PlainStmt w x = ReadsStmt ns w x
+Means ns (NamedStmt t) w x = IsName t → ReadsStmt ns (t ∷ w) x
+Means ns (ValueStmt a) w x = (u : Word) → v.Reads ns false v.Primary u a → ReadsStmt ns (u ++ w) x
+Means ns (Assigned b) w x = (u : Word) (t : Token) → ReadsPlace ns u b → IsSign t sign.Assign → ReadsStmt ns (u ++ (t ∷ w)) x
+Means ns (AssignedTail b a) w x = (u : Word) (t : Token) (p : Word) → ReadsPlace ns u b → IsSign t sign.Assign → v.Reads ns false v.Primary p a → ReadsStmt ns (u ++ (t ∷ (p ++ w))) x
+Means ns (ElseOf a b) w x = (i t s : Token) (u p : Word) → IsWord i keyword.If → IsSign t sign.OpenParen → v.Reads ns false v.Value u a → IsSign s sign.CloseParen → ReadsBlock ns p b
+    → ReadsStmt ns (i ∷ t ∷ (u ++ (s ∷ (p ++ w)))) x
 
 -- the same of parts
 abbrev pub Meant : Meanings

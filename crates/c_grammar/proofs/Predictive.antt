@@ -1,5 +1,5 @@
 -- Each part has a text, and one token of lookahead reads the grammar.
-use Rattle.std.proofs.Common.{◌≡◌, ℕ, suc, ◌≤◌, Bool, true, false, refl, [], ◌∷◌, arith, None}
+use Rattle.std.proofs.Common.{◌≡◌, ℕ, suc, ◌≤◌, Bool, true, false, refl, [], ◌∷◌, arith, nat_lt, Option, Some, None}
 use Rattle.predictive_grammar.specs.Forms.{Form, give}
 use Rattle.predictive_grammar.specs.Follows.{Word, Follows, given, taken, read, first, second, Reads}
 use Rattle.predictive_grammar.specs.Fit.{IsPredictive}
@@ -11,21 +11,23 @@ use Rattle.c_lexer.specs.declared.token.Sign.TheVariants as sign
 use Rattle.c_tree.specs.declared.operators.Level.{Level}
 use Rattle.c_tree.specs.declared.operators.Level.TheVariants as level
 use Rattle.c_tree.specs.declared.code.Expr.{Expr}
+use Rattle.c_tree.specs.declared.code.Stmt.{Stmt}
 use Rattle.c_tree.specs.Words.{Token}
-use Rattle.c_tree.specs.Names.{Names}
+use Rattle.c_tree.specs.Names.{Names, Role, TypeName, role_of}
 use Rattle.c_tree.specs.Values.{is_place}
 use Rattle.c_tree.specs.Make.{suffixed}
 use Rattle.c_grammar.specs.Sorts.{Kind, kind}
 use Rattle.c_grammar.specs.Tests.{level_number}
-use Rattle.c_grammar.specs.Parts.{What, Part, tree_of, at, Consts, Stars, TypeRest, AnyType, Value, Choosing, ChoosingTail, Upto, Links, Operand, Prefixed, Place, Postfixed, Primary, Suffixes, Arguments, MoreArguments}
+use Rattle.c_grammar.specs.Parts.{What, Part, tree_of, at, Consts, Stars, TypeRest, TypeMore, AnyType, Value, Choosing, ChoosingTail, Upto, Links, Operand, Prefixed, Place, Primary, Unnamed, Suffixes, Arguments, MoreArguments, KeyType, LocalOf, LocalRest, SignedNumberOf, GotoOf, Cases, BlockOf, Body, Statements, Statement, PlainStmt, NamedStmt, ValueStmt, Assigned, AssignedTail, ElseOf}
 use Rattle.c_grammar.specs.Trees.{no_stars}
-use Rattle.c_grammar.specs.Grammar.{C, forms, form, just, place_behind}
+use Rattle.c_grammar.specs.Grammar.{C, forms, form, call_behind, stored_behind, label_behind, named_behind}
 use Rattle.c_grammar.specs.Tables.{tables, rank_of}
 use Rattle.c_grammar.proofs.Samples.{a_sign, a_word, a_number, a_name}
 use Rattle.c_grammar.proofs.Fitting.{Suited}
-use Rattle.c_grammar.proofs.FitTypes.{fit_consts, fit_stars, fit_type_rest, fit_any_type}
+use Rattle.c_grammar.proofs.FitTypes.{fit_consts, fit_stars, fit_type_rest, fit_type_more, fit_any_type}
 use Rattle.c_grammar.proofs.FitChains.{fit_value, fit_choosing, fit_choosing_tail, fit_upto, fit_links, fit_operand}
-use Rattle.c_grammar.proofs.FitOperands.{fit_suffixes, fit_primary, fit_prefixed, fit_place, fit_postfixed, fit_arguments, fit_more_arguments}
+use Rattle.c_grammar.proofs.FitStatements.{fit_key_type, fit_local_of, fit_local_rest, fit_signed_number, fit_goto, fit_cases, fit_block, fit_body, fit_statements, fit_statement, fit_plain, fit_named, fit_value_stmt, fit_assigned, fit_assigned_tail, fit_else}
+use Rattle.c_grammar.proofs.FitOperands.{fit_suffixes, fit_primary, fit_prefixed, fit_place, fit_unnamed, fit_arguments, fit_more_arguments}
 
 -- a token of a kind
 abbrev sample : Kind → Token
@@ -43,10 +45,21 @@ cost_of (Upto l k a) = suc (level_number l)
 cost_of (ChoosingTail k a) = 11
 cost_of (Prefixed k) = 2
 cost_of Place = 2
-cost_of Postfixed = 2
+cost_of (Primary k) = 1
 cost_of (Operand l k) = 12
 cost_of (Choosing k) = 12
 cost_of (Value k) = 13
+cost_of (TypeMore t) = 1
+cost_of KeyType = 2
+cost_of LocalOf = 3
+cost_of Cases = 1
+cost_of BlockOf = 1
+cost_of PlainStmt = 1
+cost_of Statement = 2
+cost_of (ValueStmt a) = 2
+cost_of (AssignedTail b a) = 2
+cost_of (Assigned b) = 3
+cost_of (NamedStmt t) = 3
 cost_of w = 0
 
 abbrev WayOf : (ns : Names) (w : What) → Form C (at ns w) → Type 0
@@ -107,11 +120,25 @@ way_operand ns level.BitOr k = by_text refl (λ o. by_text refl (λ a. end))
 way_operand ns level.And k = by_text refl (λ o. by_text refl (λ a. end))
 way_operand ns level.Or k = by_text refl (λ o. by_text refl (λ a. end))
 
+way_call : (ns : Names) (w : What) (o : Option Expr) (a : Expr) (f : Stmt → tree_of w) → nat_lt 0 (cost_of w) ≡ true → WayOf ns w (call_behind ns o a f)
+way_call ns w o a f e = by_token (sign_kind sign.OpenParen) refl (by_text e (λ xs. by_token (sign_kind sign.CloseParen) refl (by_token (sign_kind sign.Semicolon) refl end)))
+
+way_stored : (ns : Names) (v : Expr) (b : Bool) (a : Expr) → WayOf ns (ValueStmt v) (stored_behind ns b a (λ s. s))
+way_stored ns v true a = other (way_call ns (ValueStmt v) None a (λ s. s) refl)
+way_stored ns v false a = way_call ns (ValueStmt v) None a (λ s. s) refl
+
+way_label : (ns : Names) (t : Token) → WayOf ns (NamedStmt t) (label_behind ns t)
+way_label ns t = by_token (sign_kind sign.Colon) refl (by_token (sign_kind sign.Semicolon) refl end)
+
+way_named : (ns : Names) (t : Token) (r : Role) → WayOf ns (NamedStmt t) (named_behind ns t r)
+way_named ns t (TypeName m) = way_label ns t
+way_named ns t _ = one (way_label ns t)
+
 ways_of : (ns : Names) (w : What) → WayOf ns w (form ns w)
 unfolding form
 ways_of ns Consts = other end
 ways_of ns (Stars must) = way_stars ns must
-ways_of ns (TypeRest u t must) = by_text refl (λ v. by_text refl (λ s. end))
+ways_of ns (TypeRest u t must) = other (by_text refl (λ s. end))
 ways_of ns (AnyType anyhow object) = other (by_token (word_kind keyword.Int) refl (by_text refl (λ c. end)))
 ways_of ns (Value k) = by_text refl (λ r. end)
 ways_of ns (Choosing k) = by_text refl (λ o. by_text refl (λ r. end))
@@ -122,11 +149,28 @@ ways_of ns (Operand l k) = way_operand ns l k
 ways_of ns (Prefixed true) = other (other (by_text refl (λ a. end)))
 ways_of ns (Prefixed false) = other (other (other (by_text refl (λ a. by_text refl (λ xs. end)))))
 ways_of ns Place = other (other (by_text refl (λ a. by_text refl (λ xs. end))))
-ways_of ns Postfixed = other (by_text refl (λ a. by_text refl (λ xs. end)))
-ways_of ns (Primary k) = other (one (by_token (kind a_number) refl end))
+ways_of ns (Primary k) = other (by_text refl (λ a. end))
+ways_of ns Unnamed = one (by_token (kind a_number) refl end)
 ways_of ns (Suffixes dot must) = way_suffixes ns dot must
 ways_of ns Arguments = other end
 ways_of ns MoreArguments = other end
+ways_of ns (TypeMore t) = other (by_text refl (λ s. end))
+ways_of ns KeyType = other (by_token (word_kind keyword.Int) refl (by_text refl (λ c. end)))
+ways_of ns LocalOf = by_text refl (λ c. by_token (kind a_name) refl (by_token (sign_kind sign.Semicolon) refl end))
+ways_of ns (LocalRest t) = other (by_token (kind a_name) refl (by_token (sign_kind sign.Semicolon) refl end))
+ways_of ns SignedNumberOf = other (by_token (kind a_number) refl end)
+ways_of ns GotoOf = by_token (word_kind keyword.Goto) refl (by_token (kind a_name) refl (by_token (sign_kind sign.Semicolon) refl end))
+ways_of ns Cases = other (by_token (word_kind keyword.Default) refl (by_token (sign_kind sign.Colon) refl (by_text refl (λ n. end))))
+ways_of ns BlockOf = by_token (sign_kind sign.OpenBrace) refl (by_text refl (λ r. by_token (sign_kind sign.CloseBrace) refl end))
+ways_of ns Body = other (other (other end))
+ways_of ns Statements = other end
+ways_of ns Statement = other (by_text refl (λ s. end))
+ways_of ns PlainStmt = other (other (other (other (other (one (by_text refl (λ n. end)))))))
+ways_of ns (NamedStmt t) = way_named ns t (role_of ns t.bytes)
+ways_of ns (ValueStmt a) = by_text refl (λ xs. way_stored ns a (is_place (suffixed a xs)) (suffixed a xs))
+ways_of ns (Assigned b) = other (other (other (other (by_text refl (λ a. by_text refl (λ s. end))))))
+ways_of ns (AssignedTail b a) = by_text refl (λ xs. one (way_call ns (AssignedTail b a) (Some b) (suffixed a xs) (λ s. s) refl))
+ways_of ns (ElseOf a b) = other end
 
 suited_part : (ns : Names) (w : What) → Suited ns w
 suited_part ns Consts = fit_consts ns
@@ -141,11 +185,28 @@ suited_part ns (Links l k) = fit_links ns l k
 suited_part ns (Operand l k) = fit_operand ns l k
 suited_part ns (Prefixed k) = fit_prefixed ns k
 suited_part ns Place = fit_place ns
-suited_part ns Postfixed = fit_postfixed ns
+suited_part ns Unnamed = fit_unnamed ns
 suited_part ns (Primary k) = fit_primary ns k
 suited_part ns (Suffixes dot must) = fit_suffixes ns dot must
 suited_part ns Arguments = fit_arguments ns
 suited_part ns MoreArguments = fit_more_arguments ns
+suited_part ns (TypeMore t) = fit_type_more ns t
+suited_part ns KeyType = fit_key_type ns
+suited_part ns LocalOf = fit_local_of ns
+suited_part ns (LocalRest t) = fit_local_rest ns t
+suited_part ns SignedNumberOf = fit_signed_number ns
+suited_part ns GotoOf = fit_goto ns
+suited_part ns Cases = fit_cases ns
+suited_part ns BlockOf = fit_block ns
+suited_part ns Body = fit_body ns
+suited_part ns Statements = fit_statements ns
+suited_part ns Statement = fit_statement ns
+suited_part ns PlainStmt = fit_plain ns
+suited_part ns (NamedStmt t) = fit_named ns t
+suited_part ns (ValueStmt a) = fit_value_stmt ns a
+suited_part ns (Assigned b) = fit_assigned ns b
+suited_part ns (AssignedTail b a) = fit_assigned_tail ns b a
+suited_part ns (ElseOf a b) = fit_else ns a b
 
 level_low : (l : Level) → suc (level_number l) ≤ 14
 level_low level.Product = omega arith

@@ -27,7 +27,7 @@ use Rattle.c_tree.specs.Values.{Reads, binary_of, prefix_of, tighter, is_place, 
 use Rattle.c_grammar.specs.Sorts.{kind, on, OfSign, sign_number}
 use Rattle.c_grammar.specs.Tests.{links, is_of_level, level_number, is_prefix, is_value_role, is_literal, is_field, sign_is, sign_with, is_there, name_with}
 use Rattle.c_grammar.specs.Trees.{known_operator, known_prefix, operator_in, prefix_in, sign_prefix, cast_prefix, with_prefixes, one_prefix, name_shape, name_value, literal, field_suffix, index_suffix}
-use Rattle.c_grammar.specs.Parts.{What, tree_of, at, Value, Choosing, ChoosingTail, Upto, Links, Operand, Prefixed, Place, Postfixed, Primary, Suffixes, Arguments, MoreArguments}
+use Rattle.c_grammar.specs.Parts.{What, tree_of, at, Value, Choosing, ChoosingTail, Upto, Links, Operand, Prefixed, Place, Primary, Unnamed, Suffixes, Arguments, MoreArguments}
 use Rattle.c_grammar.specs.Grammar.{form, upto_behind, tail_behind, just, cast_or_operand, suffixes_behind, place_behind, bracket_end, index_behind}
 use Rattle.c_grammar.proofs.Classes.{item_at, by_number}
 use Rattle.c_grammar.proofs.Told.{Told, gave, took, got, one, other}
@@ -134,7 +134,7 @@ by_prefix false sign.Star e = (refl, λ a. refl)
 by_prefix true _ e = absurd (true≢false (sym e))
 by_prefix false _ e = absurd (true≢false (sym e))
 
-prefix_told : (ns : Names) (c : Bool) (t : Token) → on ns (is_prefix c) (kind t) ≡ true → IsPrefix c t
+pub prefix_told : (ns : Names) (c : Bool) (t : Token) → on ns (is_prefix c) (kind t) ≡ true → IsPrefix c t
 prefix_told ns c t e = by_terminal t.terminal refl e
   where
     by_terminal : (x : Terminal) → t.terminal ≡ x → on ns (is_prefix c) (with_terminal t x) ≡ true → IsPrefix c t
@@ -147,11 +147,11 @@ prefix_told ns c t e = by_terminal t.terminal refl e
     by_terminal (Of (k.Constant constant.Null)) i e = absurd (true≢false (sym e))
     by_terminal _ i e = absurd (true≢false (sym e))
 
-may_follow_told : (a : Expr) (xs : List Suffix) → starts_well (is_place a) xs ≡ true → may_follow a xs ≡ true
+pub may_follow_told : (a : Expr) (xs : List Suffix) → starts_well (is_place a) xs ≡ true → may_follow a xs ≡ true
 may_follow_told a [] e = refl
 may_follow_told a (x ∷ xs) e = e
 
-sound_suffixes_behind : (ns : Names) (c : Bool) {r : What} (f : Expr → tree_of r) (a : Expr) (u w : Word) (x : tree_of r) → Reads ns c v.Primary u a
+pub sound_suffixes_behind : (ns : Names) (c : Bool) {r : What} (f : Expr → tree_of r) (a : Expr) (u w : Word) (x : tree_of r) → Reads ns c v.Primary u a
     → Told Meant (at ns r) (suffixes_behind ns c a f) w x → (y : Expr) × (x ≡ f y) × Reads ns c v.Postfixed (u ++ w) y
 sound_suffixes_behind ns true f a u w x d (gave i) = (a, refl, postfixed d no_suffix refl)
 sound_suffixes_behind ns false f a u w x d (got {u = p} xs m (gave i)) = (suffixed a xs, refl, at_word (ap (λ (z : Word). u ++ z) (sym (append-nil p))) (postfixed d m.reads (may_follow_told a xs m.starts)))
@@ -185,18 +185,18 @@ sound_cast_or_operand ns c w x (other (got {u = u} {v = p} a m d)) =
     let h = sound_suffixes_behind ns c (λ b. ([], b)) a u p x m d in to_prefixed x h.0 h.1 h.2
 
 -- `&` before a place, and `*`
-address : {ns : Names} {w : Word} (t : Token) (r : List PrefixOperator × Expr) → IsSign t sign.Ampersand → Reads ns false v.Prefixed w r → is_place (with_prefixes r) ≡ true
+pub address : {ns : Names} {w : Word} (t : Token) (r : List PrefixOperator × Expr) → IsSign t sign.Ampersand → Reads ns false v.Prefixed w r → is_place (with_prefixes r) ≡ true
     → Reads ns false v.Prefixed (t ∷ w) (one_prefix (sign_prefix t) r)
 address {ns = ns} {w = w} t r e d p = more_prefixes e (ap (λ (x : Terminal). Some (prefix_in x)) (sym e)) d (ap (λ (x : Terminal). may_precede (prefix_in x) (with_prefixes r)) e ∙ p)
 
-star : {ns : Names} {w : Word} (t : Token) (r : List PrefixOperator × Expr) → IsSign t sign.Star → Reads ns false v.Prefixed w r → Reads ns false v.Prefixed (t ∷ w) (one_prefix (sign_prefix t) r)
+pub star : {ns : Names} {w : Word} (t : Token) (r : List PrefixOperator × Expr) → IsSign t sign.Star → Reads ns false v.Prefixed w r → Reads ns false v.Prefixed (t ∷ w) (one_prefix (sign_prefix t) r)
 star t r e d = more_prefixes e (ap (λ (x : Terminal). Some (prefix_in x)) (sym e)) d (ap (λ (x : Terminal). may_precede (prefix_in x) (with_prefixes r)) e)
 
-is_star : (t : Token) (r : List PrefixOperator × Expr) → IsSign t sign.Star → is_place (with_prefixes (one_prefix (sign_prefix t) r)) ≡ true
+pub is_star : (t : Token) (r : List PrefixOperator × Expr) → IsSign t sign.Star → is_place (with_prefixes (one_prefix (sign_prefix t) r)) ≡ true
 unfolding shapes.out-Shape denote.Hole.Carrier.out
 is_star t r e = ap (λ (x : Terminal). is_deref (prefix_in x)) e
 
-to_place : (x : List PrefixOperator × Expr) (y : Expr) → x ≡ ([], y) → is_place y ≡ true → is_place (with_prefixes x) ≡ true
+pub to_place : (x : List PrefixOperator × Expr) (y : Expr) → x ≡ ([], y) → is_place y ≡ true → is_place (with_prefixes x) ≡ true
 to_place x y e p = ap (λ (z : List PrefixOperator × Expr). is_place (with_prefixes z)) e ∙ p
 
 pub sound_prefixed : (ns : Names) (c : Bool) → Holds ns (Prefixed c)
@@ -215,14 +215,7 @@ sound_place ns w x (other (one (took t e (got {u = u} a m (took {w = p} s f d)))
     (at_word (ap (λ (z : Word). t ∷ z) (append_assoc u (s ∷ []) p)) (to_prefixed x h.0 h.1 h.2), to_place x h.0 h.1 h.3)
 sound_place ns w x (other (other (got {u = u} {v = p} a m d))) = let h = sound_place_behind ns (λ b. ([], b)) a u p x m d in (to_prefixed x h.0 h.1 h.2, to_place x h.0 h.1 h.3)
 
-pub sound_postfixed : (ns : Names) → Holds ns Postfixed
-unfolding form
-sound_postfixed ns w x (one (took t e (got {u = u} a m (took {w = p} s f d)))) =
-    let h = sound_suffixes_behind ns false (λ b. b) (bracketed (join (words.at t) (words.at s)) a) (t ∷ (u ++ (s ∷ []))) p x (brackets s (is_sign ns sign.OpenParen t e) m (is_sign ns sign.CloseParen s f)) d in
-    subst (λ (y : Expr). Reads ns false v.Postfixed w y) (sym h.1) (at_word (ap (λ (z : Word). t ∷ z) (append_assoc u (s ∷ []) p)) h.2)
-sound_postfixed ns w x (other (got {u = u} {v = p} a m d)) = let h = sound_suffixes_behind ns false (λ b. b) a u p x m d in subst (λ (y : Expr). Reads ns false v.Postfixed w y) (sym h.1) h.2
-
-by_name : (ns : Names) (c : Bool) (t : Token) (r : Role) → IsName t → role_of ns t.bytes ≡ r → is_value_role c r ≡ true → Reads ns c v.Primary (t ∷ []) (expr (name_shape r (name_at t)) (at_token t))
+pub by_name : (ns : Names) (c : Bool) (t : Token) (r : Role) → IsName t → role_of ns t.bytes ≡ r → is_value_role c r ≡ true → Reads ns c v.Primary (t ∷ []) (expr (name_shape r (name_at t)) (at_token t))
 by_name ns c t FunctionName i e h = function i e
 by_name ns c t MemberName i e h = member i e
 by_name ns c t Unknown i e h = variable i (ap (is_variable c) e ∙ h)
@@ -240,14 +233,18 @@ by_literal ns c (Of k.Text) w a b l e = text refl
 by_literal ns c (Of (k.Constant x)) w a b l e = constant_name refl
 by_literal ns c _ w a b l e = absurd (true≢false (sym e))
 
+pub sound_unnamed : (ns : Names) → Holds ns Unnamed
+unfolding form
+sound_unnamed ns w x (one (took t e (gave a))) c = by_literal ns c t.terminal t.bytes t.start t.end t.begins_line e
+sound_unnamed ns w x (other (one (took t e (took r f (got y m (took s g (gave a))))))) c =
+    size_of s (is_word ns keyword.Sizeof t e) (is_sign ns sign.OpenParen r f) m.reads (m.fits refl) (is_sign ns sign.CloseParen s g)
+sound_unnamed ns w x (other (other (took t e (took r f (got y m (took q g (took n h (took s i (gave a))))))))) c =
+    offset q n s (is_word ns keyword.StructOffset t e) (is_sign ns sign.OpenParen r f) m.reads (m.fits refl) (is_sign ns sign.Comma q g) (is_name ns n h) (is_sign ns sign.CloseParen s i)
+
 pub sound_primary : (ns : Names) (c : Bool) → Holds ns (Primary c)
 unfolding form
 sound_primary ns c w x (one (took t e (gave a))) = let h = is_name_with ns (is_value_role c) t e in by_name ns c t (role_of ns t.bytes) h.0 refl h.1
-sound_primary ns c w x (other (one (took t e (gave a)))) = by_literal ns c t.terminal t.bytes t.start t.end t.begins_line e
-sound_primary ns c w x (other (other (one (took t e (took r f (got y m (took s g (gave a)))))))) =
-    size_of s (is_word ns keyword.Sizeof t e) (is_sign ns sign.OpenParen r f) m.reads (m.fits refl) (is_sign ns sign.CloseParen s g)
-sound_primary ns c w x (other (other (other (took t e (took r f (got y m (took q g (took n h (took s i (gave a)))))))))) =
-    offset q n s (is_word ns keyword.StructOffset t e) (is_sign ns sign.OpenParen r f) m.reads (m.fits refl) (is_sign ns sign.Comma q g) (is_name ns n h) (is_sign ns sign.CloseParen s i)
+sound_primary ns c w x (other (got a m (gave i))) = then_nothing (m c)
 
 -- `.` or `->`, and a name
 pub data IsField (dot : Bool) (t : Token) : Type 0 where

@@ -8,15 +8,22 @@ use Rattle.c_lexer.specs.declared.token.Sign.TheVariants as sign
 use Rattle.c_tree.specs.declared.operators.Level.{Level}
 use Rattle.c_tree.specs.declared.operators.Level.TheVariants as level
 use Rattle.c_tree.specs.declared.code.Expr.{Expr}
+use Rattle.c_tree.specs.declared.names.CType.{CType}
+use Rattle.c_tree.specs.declared.operators.PrefixOperator.{PrefixOperator}
+use Rattle.c_tree.specs.declared.code.Suffix.{Suffix}
+use Rattle.c_tree.specs.declared.code.Local.{Local}
+use Rattle.c_tree.specs.declared.code.Stmt.{Stmt}
+use Rattle.c_tree.specs.declared.code.Stmt.TheVariants as stmt
 use Rattle.c_tree.specs.Words.{Token, Word, join}
 use Rattle.c_tree.specs.Words as words
-use Rattle.c_tree.specs.Names.{Names}
+use Rattle.c_tree.specs.Names.{Names, Role, TypeName, RowName, role_of, with_local}
+use Rattle.c_tree.specs.Types.{can_be_type}
 use Rattle.c_tree.specs.Values.{is_place, tighter}
-use Rattle.c_tree.specs.Make.{name_at, bracketed, link, choice, chained, suffixed, conditional}
-use Rattle.c_grammar.specs.Sorts.{Kind, kind, Name, on}
-use Rattle.c_grammar.specs.Tests.{Set, is, sign_is, word_is, name_with, is_base, begins_type, links, is_prefix, is_value_role, is_literal, begins_primary, begins_prefixed, is_field}
-use Rattle.c_grammar.specs.Trees.{is_void, type_of, no_stars, one_star, operator_in, sign_prefix, cast_prefix, with_prefixes, one_prefix, name_value, literal, size_of, offset, field_suffix, index_suffix}
-use Rattle.c_grammar.specs.Parts.{What, Part, tree_of, at, Consts, Stars, TypeRest, AnyType, Value, Choosing, ChoosingTail, Upto, Links, Operand, Prefixed, Place, Postfixed, Primary, Suffixes, Arguments, MoreArguments}
+use Rattle.c_tree.specs.Make.{name_at, bracketed, link, choice, chained, suffixed, conditional, block}
+use Rattle.c_grammar.specs.Sorts.{Kind, kind, Name, Number, on}
+use Rattle.c_grammar.specs.Tests.{Set, is, sign_is, word_is, name_with, is_base, begins_type, links, is_prefix, is_value_role, is_literal, begins_primary, begins_unnamed, begins_prefixed, is_field, is_callee_role, begins_key_type, is_key_base, goes_on_type, goes_on_local, begins_plain, begins_statement}
+use Rattle.c_grammar.specs.Trees.{is_void, type_of, no_stars, one_star, operator_in, sign_prefix, cast_prefix, with_prefixes, one_prefix, name_value, literal, size_of, offset, field_suffix, index_suffix, signed, local, value_call, row_call, call_stmt, one_case}
+use Rattle.c_grammar.specs.Parts.{What, Part, tree_of, at, Consts, Stars, TypeRest, TypeMore, AnyType, Value, Choosing, ChoosingTail, Upto, Links, Operand, Prefixed, Place, Primary, Unnamed, Suffixes, Arguments, MoreArguments, KeyType, LocalOf, LocalRest, SignedNumberOf, GotoOf, Cases, BlockOf, Body, Statements, Statement, PlainStmt, NamedStmt, ValueStmt, Assigned, AssignedTail, ElseOf}
 
 -- nothing is left out with a word of its own
 abbrev pub C : Signature
@@ -39,6 +46,10 @@ token ns test k = take unchanged 0 (on ns test) k
 -- a sign that opens a bracket
 abbrev pub opening : {r : Part} → Names → Sign → (Token → Form C r) → Form C r
 opening ns s k = take inside 0 (on ns (sign_is s)) k
+
+-- a token inside a bracket
+abbrev pub token_inside : {r : Part} → Names → Set → (Token → Form C r) → Form C r
+token_inside ns test k = take inside 0 (on ns test) k
 
 -- any other sign
 abbrev pub sign_here : {r : Part} → Names → Sign → (Token → Form C r) → Form C r
@@ -83,10 +94,6 @@ place_behind ns a f = just ns (Suffixes (is_place a) (not (is_place a))) (λ xs.
 abbrev pub bracket_end : {r : Part} → Names → Bool → Token → (Expr → Form C r) → Form C r
 bracket_end ns constant t k = inner ns (Value constant) (λ a. sign_here ns sign.CloseParen (λ s. k (bracketed (join (words.at t) (words.at s)) a)))
 
--- a type in brackets, in which nothing but one can stand
-abbrev pub type_inside : {r : Part} → Names → (tree_of (AnyType true true) → Form C r) → Form C r
-type_inside ns k = opening ns sign.OpenParen (λ r. inner ns (AnyType true true) k)
-
 -- what follows the operand, up to a level that is the loosest of chains inside one of this level
 abbrev pub tail_behind : {r : Part} → Names → Option Level → Bool → Expr → (Expr → tree_of r.what) → Form C r
 tail_behind ns None constant a f = give (f a)
@@ -101,13 +108,82 @@ upto_behind ns (Some m) constant a k = here ns (Upto m constant a) k
 abbrev pub index_behind : {dot must : Bool} → (ns : Names) → Form C (at ns (Suffixes dot must))
 index_behind ns = opening ns sign.OpenBracket (λ t. inner ns (Value false) (λ i. sign_here ns sign.CloseBracket (λ s. just ns (Suffixes true false) (λ xs. index_suffix t i s ∷ xs))))
 
+-- a cast behind `(`, and what it stands before
+abbrev pub cast_behind : {r : Part} → Names → Bool → Token → (List PrefixOperator × Expr → Form C r) → Form C r
+cast_behind ns c t k = inner ns (AnyType false true) (λ y. sign_here ns sign.CloseParen (λ s. here ns (Prefixed c) (λ r. k (one_prefix (cast_prefix t y s) r))))
+
 -- a cast and what stands behind it, or an operand without an operator in front
 abbrev pub cast_or_operand : (ns : Names) (c : Bool) → Form C (at ns (Prefixed c))
 cast_or_operand ns c =
-    where_open ns sign.OpenParen (λ t.
-        pick (on ns (begins_type false)) (inner ns (AnyType false true) (λ y. sign_here ns sign.CloseParen (λ s. just ns (Prefixed c) (λ r. one_prefix (cast_prefix t y s) r))))
-        (bracket_end ns c t (λ a. suffixes_behind ns c a (λ b. ([], b)))))
+    where_open ns sign.OpenParen (λ t. pick (on ns (begins_type false)) (cast_behind ns c t (λ r. give r)) (bracket_end ns c t (λ a. suffixes_behind ns c a (λ b. ([], b)))))
     (here ns (Primary c) (λ a. suffixes_behind ns c a (λ b. ([], b))))
+
+-- a declaration, behind its type
+abbrev pub local_end : {r : Part} → Names → CType → (Local → Form C r) → Form C r
+local_end ns c k = token ns (is Name) (λ n. sign_here ns sign.Semicolon (λ e. k (local c n)))
+
+-- the statements behind one
+abbrev pub statements_behind : (ns : Names) → Stmt → Form C (at ns Body)
+statements_behind ns s = just ns Statements (λ ss. ([], s ∷ ss))
+
+-- the declarations and statements behind a declaration
+abbrev pub body_behind : (ns : Names) → Local → Form C (at ns Body)
+body_behind ns l = part unchanged (at (with_local ns l) Body) (λ r. give (l ∷ r.0, r.1))
+
+-- behind a name that a declaration or a statement begins with, by whether it can be a type
+abbrev pub body_named : (ns : Names) → Token → Bool → Form C (at ns Body)
+body_named ns t true = pick (on ns goes_on_local) (here ns (LocalRest t) (λ l. body_behind ns l)) (here ns (NamedStmt t) (λ s. statements_behind ns s))
+body_named ns t false = here ns (NamedStmt t) (λ s. statements_behind ns s)
+
+-- a call of a value, behind the callee
+abbrev pub call_behind : {w : What} (ns : Names) → Option Expr → Expr → (Stmt → tree_of w) → Form C (at ns w)
+call_behind ns o a f = opening ns sign.OpenParen (λ t. inner ns Arguments (λ xs. sign_here ns sign.CloseParen (λ s. sign_here ns sign.Semicolon (λ e. give (f (call_stmt o (value_call a xs s)))))))
+
+-- a call of a function of the library, behind its name, which takes a type first or not
+abbrev pub row_behind : {w : What} (ns : Names) → Option Expr → Token → Bool → (Stmt → tree_of w) → Form C (at ns w)
+row_behind ns o n false f =
+    opening ns sign.OpenParen (λ t. inner ns Arguments (λ xs. sign_here ns sign.CloseParen (λ s. sign_here ns sign.Semicolon (λ e. give (f (call_stmt o (row_call n None xs s)))))))
+row_behind ns o n true f =
+    opening ns sign.OpenParen (λ t. inner ns (AnyType true true) (λ c. inner ns MoreArguments (λ xs. sign_here ns sign.CloseParen (λ s. sign_here ns sign.Semicolon (λ e.
+        give (f (call_stmt o (row_call n (Some c) xs s))))))))
+
+-- `:` and `;` behind the name of a label
+abbrev pub label_behind : (ns : Names) (t : Token) → Form C (at ns (NamedStmt t))
+label_behind ns t = sign_here ns sign.Colon (λ c. sign_here ns sign.Semicolon (λ e. give (stmt.Label (name_at t))))
+
+-- a label, or the other
+abbrev pub label_or : (ns : Names) (t : Token) → Form C (at ns (NamedStmt t)) → Form C (at ns (NamedStmt t))
+label_or ns t other = pick (on ns (sign_is sign.Colon)) (label_behind ns t) other
+
+-- what follows a name that a statement begins with, by its role
+abbrev pub named_behind : (ns : Names) (t : Token) → Role → Form C (at ns (NamedStmt t))
+named_behind ns t (TypeName m) = label_behind ns t
+named_behind ns t (RowName takes_type) = label_or ns t (row_behind ns None t takes_type (λ s. s))
+named_behind ns t r = label_or ns t (just ns (ValueStmt (name_value ns t)) (λ s. s))
+
+-- `=` and what is stored, where it is a place, or the brackets of a call
+abbrev pub stored_behind : {w : What} (ns : Names) → Bool → Expr → (Stmt → tree_of w) → Form C (at ns w)
+stored_behind ns true a f = where_token ns (sign_is sign.Assign) (λ t. just ns (Assigned a) f) (call_behind ns None a f)
+stored_behind ns false a f = call_behind ns None a f
+
+-- what follows the first operand of a value that is stored to this place
+abbrev pub value_behind : {b : Expr} (ns : Names) → Expr → Form C (at ns (Assigned b))
+value_behind {b} ns a = here ns (ChoosingTail false a) (λ r. sign_here ns sign.Semicolon (λ e. give (stmt.Assign b (conditional r.0 r.1))))
+
+-- what follows a name that is stored or called, by its role
+abbrev pub assigned_named : {b : Expr} (ns : Names) → Token → Role → Form C (at ns (Assigned b))
+assigned_named {b} ns t (RowName takes_type) = row_behind ns (Some b) t takes_type (λ s. s)
+assigned_named {b} ns t r = just ns (AssignedTail b (name_value ns t)) (λ s. s)
+
+-- the brackets of a call, or the rest of a value that is stored to this place
+abbrev pub called_or_value : (ns : Names) (b a : Expr) → List Suffix → Form C (at ns (AssignedTail b a))
+called_or_value ns b a xs =
+    pick (on ns (sign_is sign.OpenParen)) (call_behind ns (Some b) (suffixed a xs) (λ s. s))
+    (here ns (ChoosingTail false (suffixed a xs)) (λ r. sign_here ns sign.Semicolon (λ e. give (stmt.Assign b (conditional r.0 r.1)))))
+
+-- a value in brackets
+abbrev pub value_inside : {r : Part} → Names → (Expr → Form C r) → Form C r
+value_inside ns k = opening ns sign.OpenParen (λ t. inner ns (Value false) (λ a. sign_here ns sign.CloseParen (λ s. k a)))
 
 -- 3. Forms
 
@@ -116,7 +192,10 @@ unfoldable pub form : (ns : Names) (w : What) → Form C (at ns w)
 form ns Consts = where_token ns (word_is keyword.Const) (λ t. just ns Consts (λ u. t ∷ u)) (give [])
 form ns (Stars true) = sign_here ns sign.Star (λ t. here ns Consts (λ u. just ns (Stars false) (λ s. one_star t u s)))
 form ns (Stars false) = where_token ns (sign_is sign.Star) (λ t. here ns Consts (λ u. just ns (Stars false) (λ s. one_star t u s))) (give no_stars)
-form ns (TypeRest u t must) = here ns Consts (λ v. just ns (Stars must) (λ s. type_of u t v s))
+form ns (TypeRest u t must) =
+    where_token ns (word_is keyword.Const) (λ c. here ns Consts (λ v. just ns (Stars must) (λ s. type_of u t (c ∷ v) s))) (just ns (Stars must) (λ s. type_of u t [] s))
+form ns (TypeMore t) =
+    where_token ns (word_is keyword.Const) (λ c. here ns Consts (λ v. just ns (Stars false) (λ s. type_of [] t (c ∷ v) s))) (just ns (Stars true) (λ s. type_of [] t [] s))
 form ns (AnyType anyhow object) =
     where_token ns (word_is keyword.Const) (λ t. here ns Consts (λ u. base_behind ns anyhow object (t ∷ u) (λ c. c))) (base_behind ns anyhow object [] (λ c. c))
 form ns (Value c) = just ns (Choosing c) (λ r. conditional r.0 r.1)
@@ -134,15 +213,12 @@ form ns Place =
     where_token ns (sign_is sign.Star) (λ t. just ns (Prefixed false) (λ r. one_prefix (sign_prefix t) r))
     (where_open ns sign.OpenParen (λ t. bracket_end ns false t (λ a. place_behind ns a (λ b. ([], b))))
     (here ns (Primary false) (λ a. place_behind ns a (λ b. ([], b)))))
-form ns Postfixed =
-    where_open ns sign.OpenParen (λ t. bracket_end ns false t (λ a. suffixes_behind ns false a (λ b. b)))
-    (here ns (Primary false) (λ a. suffixes_behind ns false a (λ b. b)))
-form ns (Primary c) =
-    where_token ns (name_with (is_value_role c)) (λ t. give (name_value ns t))
-    (where_token ns is_literal (λ t. give (literal t))
-    (where_token ns (word_is keyword.Sizeof) (λ t. type_inside ns (λ y. sign_here ns sign.CloseParen (λ s. give (size_of t y s))))
-    (token ns (word_is keyword.StructOffset) (λ t. type_inside ns (λ y.
-        token ns (sign_is sign.Comma) (λ m. token ns (is Name) (λ n. sign_here ns sign.CloseParen (λ s. give (offset t y n s)))))))))
+form ns (Primary c) = where_token ns (name_with (is_value_role c)) (λ t. give (name_value ns t)) (just ns Unnamed (λ a. a))
+form ns Unnamed =
+    where_token ns is_literal (λ t. give (literal t))
+    (where_token ns (word_is keyword.Sizeof) (λ t. opening ns sign.OpenParen (λ r. inner ns (AnyType true true) (λ y. sign_here ns sign.CloseParen (λ s. give (size_of t y s)))))
+    (token ns (word_is keyword.StructOffset) (λ t. opening ns sign.OpenParen (λ r. inner ns (AnyType true true) (λ y.
+        token_inside ns (sign_is sign.Comma) (λ m. token_inside ns (is Name) (λ n. sign_here ns sign.CloseParen (λ s. give (offset t y n s)))))))))
 form ns (Suffixes dot true) =
     where_token ns (is_field dot) (λ t. token ns (is Name) (λ n. just ns (Suffixes true false) (λ xs. field_suffix t.terminal (name_at n) ∷ xs))) (index_behind ns)
 form ns (Suffixes dot false) =
@@ -150,6 +226,43 @@ form ns (Suffixes dot false) =
     (pick (on ns (sign_is sign.OpenBracket)) (index_behind ns) (give []))
 form ns Arguments = pick (on ns (begins_prefixed false)) (here ns (Value false) (λ a. just ns MoreArguments (λ xs. a ∷ xs))) (give [])
 form ns MoreArguments = where_token ns (sign_is sign.Comma) (λ t. here ns (Value false) (λ a. just ns MoreArguments (λ xs. a ∷ xs))) (give [])
+form ns KeyType =
+    where_token ns (word_is keyword.Const) (λ t. here ns Consts (λ u. base_behind ns true true (t ∷ u) (λ c. c))) (token ns is_key_base (λ t. just ns (TypeRest [] t (is_void t)) (λ c. c)))
+form ns LocalOf = here ns (AnyType true true) (λ c. local_end ns c (λ l. give l))
+form ns (LocalRest t) = pick (on ns goes_on_type) (here ns (TypeMore t) (λ c. local_end ns c (λ l. give l))) (local_end ns (type_of [] t [] no_stars) (λ l. give l))
+form ns SignedNumberOf = where_token ns (sign_is sign.Minus) (λ m. token ns (is Number) (λ t. give (signed true t))) (token ns (is Number) (λ t. give (signed false t)))
+form ns GotoOf = token ns (word_is keyword.Goto) (λ t. token ns (is Name) (λ n. sign_here ns sign.Semicolon (λ e. give n)))
+form ns Cases =
+    where_token ns (word_is keyword.Case) (λ t. here ns SignedNumberOf (λ x. sign_here ns sign.Colon (λ c. here ns GotoOf (λ n. just ns Cases (λ r. (one_case x n ∷ r.0, r.1))))))
+    (token ns (word_is keyword.Default) (λ d. sign_here ns sign.Colon (λ c. just ns GotoOf (λ n. ([], n)))))
+form ns BlockOf = opening ns sign.OpenBrace (λ t. inner ns Body (λ r. sign_here ns sign.CloseBrace (λ s. give (block r.0 r.1 (join (words.at t) (words.at s))))))
+form ns Body =
+    pick (on ns begins_key_type) (here ns KeyType (λ c. local_end ns c (λ l. body_behind ns l)))
+    (where_token ns (is Name) (λ t. body_named ns t (can_be_type true (role_of ns t.bytes)))
+    (pick (on ns begins_plain) (here ns PlainStmt (λ s. statements_behind ns s)) (give ([], []))))
+form ns Statements = pick (on ns begins_statement) (here ns Statement (λ s. just ns Statements (λ ss. s ∷ ss))) (give [])
+form ns Statement = where_token ns (is Name) (λ t. just ns (NamedStmt t) (λ s. s)) (just ns PlainStmt (λ s. s))
+form ns PlainStmt =
+    where_token ns (sign_is sign.Star) (λ t. here ns (Prefixed false) (λ r. sign_here ns sign.Assign (λ e. just ns (Assigned (with_prefixes (one_prefix (sign_prefix t) r))) (λ s. s))))
+    (where_open ns sign.OpenParen (λ t. bracket_end ns false t (λ a. just ns (ValueStmt a) (λ s. s)))
+    (pick (on ns begins_unnamed) (here ns Unnamed (λ a. just ns (ValueStmt a) (λ s. s)))
+    (pick (on ns (sign_is sign.OpenBrace)) (just ns BlockOf (λ b. stmt.Block b))
+    (where_token ns (word_is keyword.If) (λ i. value_inside ns (λ a. pick (on ns (word_is keyword.Goto)) (just ns GotoOf (λ n. stmt.IfGoto a (name_at n))) (here ns BlockOf (λ b. just ns (ElseOf a b) (λ s. s)))))
+    (pick (on ns (word_is keyword.Goto)) (just ns GotoOf (λ n. stmt.Goto (name_at n)))
+    (where_token ns (word_is keyword.Switch) (λ i. value_inside ns (λ a. opening ns sign.OpenBrace (λ l. inner ns Cases (λ r. sign_here ns sign.CloseBrace (λ s. give (stmt.Switch a r.0 (name_at r.1)))))))
+    (token ns (word_is keyword.Return) (λ t.
+        where_token ns (sign_is sign.Semicolon) (λ e. give (stmt.Return (words.at t) None)) (here ns (Value false) (λ a. sign_here ns sign.Semicolon (λ e. give (stmt.Return (words.at t) (Some a)))))))))))))
+form ns (NamedStmt t) = named_behind ns t (role_of ns t.bytes)
+form ns (ValueStmt a) = here ns (Suffixes (is_place a) false) (λ xs. stored_behind ns (is_place (suffixed a xs)) (suffixed a xs) (λ s. s))
+form ns (Assigned b) =
+    where_token ns (name_with is_callee_role) (λ t. assigned_named ns t (role_of ns t.bytes))
+    (where_token ns (is_prefix false) (λ t. here ns (Prefixed false) (λ r. value_behind ns (with_prefixes (one_prefix (sign_prefix t) r))))
+    (where_token ns (sign_is sign.Ampersand) (λ t. here ns Place (λ r. value_behind ns (with_prefixes (one_prefix (sign_prefix t) r))))
+    (where_open ns sign.OpenParen (λ t.
+        pick (on ns (begins_type false)) (cast_behind ns false t (λ r. value_behind ns (with_prefixes r))) (bracket_end ns false t (λ a. just ns (AssignedTail b a) (λ s. s))))
+    (here ns Unnamed (λ a. just ns (AssignedTail b a) (λ s. s))))))
+form ns (AssignedTail b a) = here ns (Suffixes (is_place a) false) (λ xs. called_or_value ns b a xs)
+form ns (ElseOf a b) = where_token ns (word_is keyword.Else) (λ l. just ns BlockOf (λ d. stmt.If a b (Some d))) (give (stmt.If a b None))
 
 -- the form of each part
 abbrev pub forms : Productions C

@@ -7,7 +7,8 @@
 -- What rests on a tree that was read is a choice of the next token: `.` behind a value that is no place is not read (`Suffixes`); behind `&` stands a
 -- part of its own (`Place`), in which a suffix must follow what is no place itself; and behind `void`, where nothing but an object can stand, a `*`
 -- must follow (`TypeRest`). Where several parts begin alike, what follows their common beginning is a part: what follows an operand of a chain
--- (`Upto`, `ChoosingTail`).
+-- (`Upto`, `ChoosingTail`), a name that may begin a declaration, a label, a call or a place (`LocalRest`, `NamedStmt`), an operand that is called or
+-- stored to (`ValueStmt`), and what is stored, a value or the callee of a call (`Assigned`, `AssignedTail`).
 --
 -- The level of a token is how many brackets and `?` are open behind it, so that 65 levels are what `is_shallow` allows.
 use Rattle.std.specs.Prelude.{ℕ, Bool, List}
@@ -18,6 +19,11 @@ use Rattle.c_tree.specs.declared.code.Expr.{Expr}
 use Rattle.c_tree.specs.declared.code.Link.{Link}
 use Rattle.c_tree.specs.declared.code.Choice.{Choice}
 use Rattle.c_tree.specs.declared.code.Suffix.{Suffix}
+use Rattle.c_tree.specs.declared.code.Local.{Local}
+use Rattle.c_tree.specs.declared.code.Case.{Case}
+use Rattle.c_tree.specs.declared.code.Stmt.{Stmt}
+use Rattle.c_tree.specs.declared.code.Block.{Block}
+use Rattle.c_tree.specs.declared.names.SignedNumber.{SignedNumber}
 use Rattle.c_tree.specs.Words.{Token, Word}
 use Rattle.c_tree.specs.Names.{Names}
 
@@ -29,6 +35,8 @@ pub data What : Type 0 where
   Stars : Bool → What
   -- what follows these `const` and this base of a type; a `*` must or not
   TypeRest : Word → Token → Bool → What
+  -- what follows this base, where there is something
+  TypeMore : Token → What
   -- a type; whether an undeclared name is one; whether it must be one that something can have
   AnyType : Bool → Bool → What
   -- the parts of values, as a constant or not
@@ -44,15 +52,39 @@ pub data What : Type 0 where
   -- operators before an operand, and the operand; the same where it must be a place
   Prefixed : Bool → What
   Place : What
-  -- an operand without operators before it
-  Postfixed : What
-  -- the same without brackets around it and without suffixes
+  -- an operand without operators before it, brackets around it and suffixes; the same where it is no name
   Primary : Bool → What
+  Unnamed : What
   -- suffixes; whether the first may be `.`; whether there must be one
   Suffixes : Bool → Bool → What
   -- the values between the brackets of a call, and those behind the first
   Arguments : What
   MoreArguments : What
+  -- a type that begins with a word of its own; a declaration; what follows this name as the base of its type
+  KeyType : What
+  LocalOf : What
+  LocalRest : Token → What
+  -- a number, with `-` before it or not
+  SignedNumberOf : What
+  -- `goto L;`, by the name
+  GotoOf : What
+  -- the cases of a `switch` and its `default`
+  Cases : What
+  -- a block; declarations and then statements; statements
+  BlockOf : What
+  Body : What
+  Statements : What
+  -- a statement; one that begins with no name; what follows this name that one begins with
+  Statement : What
+  PlainStmt : What
+  NamedStmt : Token → What
+  -- what follows this operand that a statement begins with
+  ValueStmt : Expr → What
+  -- what follows a place and `=`; the same behind this operand
+  Assigned : Expr → What
+  AssignedTail : Expr → Expr → What
+  -- what follows `if`, this value and this block
+  ElseOf : Expr → Block → What
 
 -- Stars as they are written, and how many they are.
 pub record Starred : Type 0 where
@@ -64,6 +96,7 @@ abbrev pub tree_of : What → Type 0
 tree_of Consts = Word
 tree_of (Stars must) = Starred
 tree_of (TypeRest u t must) = CType
+tree_of (TypeMore t) = CType
 tree_of (AnyType anyhow object) = CType
 tree_of (Value c) = Expr
 tree_of (Choosing c) = List Choice × Expr
@@ -73,11 +106,27 @@ tree_of (Links l c) = List Link
 tree_of (Operand l c) = Expr
 tree_of (Prefixed c) = List PrefixOperator × Expr
 tree_of Place = List PrefixOperator × Expr
-tree_of Postfixed = Expr
 tree_of (Primary c) = Expr
+tree_of Unnamed = Expr
 tree_of (Suffixes dot must) = List Suffix
 tree_of Arguments = List Expr
 tree_of MoreArguments = List Expr
+tree_of KeyType = CType
+tree_of LocalOf = Local
+tree_of (LocalRest t) = Local
+tree_of SignedNumberOf = SignedNumber
+tree_of GotoOf = Token
+tree_of Cases = List Case × Token
+tree_of BlockOf = Block
+tree_of Body = List Local × List Stmt
+tree_of Statements = List Stmt
+tree_of Statement = Stmt
+tree_of PlainStmt = Stmt
+tree_of (NamedStmt t) = Stmt
+tree_of (ValueStmt a) = Stmt
+tree_of (Assigned b) = Stmt
+tree_of (AssignedTail b a) = Stmt
+tree_of (ElseOf a b) = Stmt
 
 -- A part: what is read, and the names in scope.
 pub record Part : Type 0 where

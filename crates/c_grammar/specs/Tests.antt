@@ -9,7 +9,7 @@ use Rattle.c_tree.specs.declared.operators.Level.{Level}
 use Rattle.c_tree.specs.declared.operators.Level.TheVariants as level
 use Rattle.c_tree.specs.declared.operators.Prefix.{Prefix}
 use Rattle.c_tree.specs.Kinds.{level_of}
-use Rattle.c_tree.specs.Names.{Role, FunctionName, MemberName}
+use Rattle.c_tree.specs.Names.{Role, RowName, FunctionName, MemberName}
 use Rattle.c_tree.specs.Types.{can_be_type}
 use Rattle.c_tree.specs.Values.{binary_of, prefix_of, is_variable}
 use Rattle.c_grammar.specs.Sorts.{Sort, Name, Number, Character, Text, Null, Capital, OfSign, OfWord, Class, same}
@@ -107,13 +107,13 @@ is_value_role constant r = is_variable constant r
 abbrev pub is_literal : Set
 is_literal c = is Number c || is Character c || is Text c || is Null c || is Capital c
 
--- what a value begins with that has no operator and no bracket in front
-abbrev pub begins_primary : Bool → Set
-begins_primary constant c = name_with (is_value_role constant) c || is_literal c || word_is keyword.Sizeof c || word_is keyword.StructOffset c
+-- what a value begins with that has no operator and no bracket in front and is no name
+abbrev pub begins_unnamed : Set
+begins_unnamed c = is_literal c || word_is keyword.Sizeof c || word_is keyword.StructOffset c
 
--- what an operand begins with
-abbrev pub begins_postfixed : Set
-begins_postfixed c = sign_is sign.OpenParen c || begins_primary false c
+-- the same, or a name
+abbrev pub begins_primary : Bool → Set
+begins_primary constant c = name_with (is_value_role constant) c || begins_unnamed c
 
 -- what an operand with operators before it begins with
 abbrev pub begins_prefixed : Bool → Set
@@ -121,7 +121,7 @@ begins_prefixed constant c = is_prefix constant c || (not constant && sign_is si
 
 -- what a place begins with
 abbrev pub begins_place : Set
-begins_place c = sign_is sign.Star c || begins_postfixed c
+begins_place c = sign_is sign.Star c || sign_is sign.OpenParen c || begins_primary false c
 
 -- `->`, and `.` where it may stand
 abbrev pub is_field : Bool → Set
@@ -130,3 +130,47 @@ is_field dot c = sign_is sign.Arrow c || (dot && sign_is sign.Dot c)
 -- what suffixes begin with
 abbrev pub begins_suffix : Bool → Set
 begins_suffix dot c = sign_is sign.OpenBracket c || is_field dot c
+
+-- 4. Statements
+
+-- the name of a value, or of a function of the library
+abbrev pub is_callee_role : Role → Bool
+is_callee_role (RowName takes_type) = true
+is_callee_role r = is_value_role false r
+
+-- what a type begins with that begins with a word of its own
+abbrev pub begins_key_type : Set
+begins_key_type c = word_is keyword.Const c || word_is keyword.Void c || word_is keyword.Int c || word_is keyword.Char c
+
+-- a base that is a word of its own
+abbrev pub is_key_base : Set
+is_key_base c = word_is keyword.Void c || word_is keyword.Int c || word_is keyword.Char c
+
+-- what follows the base of a type
+abbrev pub goes_on_type : Set
+goes_on_type c = sign_is sign.Star c || word_is keyword.Const c
+
+-- what follows a name that is the base of the type of a declaration
+abbrev pub goes_on_local : Set
+goes_on_local c = goes_on_type c || is Name c
+
+-- what a statement begins with that begins with no name
+abbrev pub begins_plain : Set
+begins_plain c =
+    sign_is sign.Star c || sign_is sign.OpenParen c || sign_is sign.OpenBrace c || begins_unnamed c || word_is keyword.If c || word_is keyword.Goto c || word_is keyword.Switch c || word_is keyword.Return c
+
+-- what a statement begins with
+abbrev pub begins_statement : Set
+begins_statement c = is Name c || begins_plain c
+
+-- what a declaration or a statement begins with
+abbrev pub begins_body : Set
+begins_body c = begins_key_type c || begins_statement c
+
+-- what follows an operand that a statement begins with
+abbrev pub goes_on_statement : Set
+goes_on_statement c = begins_suffix true c || sign_is sign.Assign c || sign_is sign.OpenParen c
+
+-- what a value or a call begins with
+abbrev pub begins_assigned : Set
+begins_assigned c = name_with is_callee_role c || is_prefix false c || sign_is sign.Ampersand c || sign_is sign.OpenParen c || begins_unnamed c

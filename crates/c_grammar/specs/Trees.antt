@@ -17,11 +17,20 @@ use Rattle.c_tree.specs.declared.code.Shape.{Shape}
 use Rattle.c_tree.specs.declared.code.Shape.TheVariants as shape
 use Rattle.c_tree.specs.declared.code.Suffix.{Suffix}
 use Rattle.c_tree.specs.declared.code.Suffix.TheVariants as suffix
+use Rattle.c_lexer.specs.declared.token.NumberType.TheVariants as number_type
+use Rattle.c_tree.specs.declared.names.Number.{Number}
+use Rattle.c_tree.specs.declared.names.SignedNumber.{SignedNumber}
+use Rattle.c_tree.specs.declared.code.Local.{Local}
+use Rattle.c_tree.specs.declared.code.Callee.TheVariants as callee
+use Rattle.c_tree.specs.declared.code.Call.{Call}
+use Rattle.c_tree.specs.declared.code.Case.{Case}
+use Rattle.c_tree.specs.declared.code.Stmt.{Stmt}
+use Rattle.c_tree.specs.declared.code.Stmt.TheVariants as stmt
 use Rattle.c_tree.specs.Words.{Terminal, Of, Token, Word, at, join, extent}
 use Rattle.c_tree.specs.Names.{Names, Role, FunctionName, MemberName, role_of}
 use Rattle.c_tree.specs.Types.{is_void_base}
 use Rattle.c_tree.specs.Values.{binary_of, prefix_of}
-use Rattle.c_tree.specs.Make.{name_at, expr, prefixed}
+use Rattle.c_tree.specs.Make.{name_at, span_of, expr, prefixed}
 use Rattle.c_grammar.specs.Parts.{Starred}
 
 -- 1. Types
@@ -135,3 +144,35 @@ field_suffix t n = suffix.Arrow n
 -- `[` and a value up to `]`
 abbrev pub index_suffix : Token → Expr → Token → Suffix
 index_suffix t i s = suffix.Index i (join (at t) (at s))
+
+-- 4. Statements
+
+-- a number by its token
+abbrev pub number_in : Terminal → Number
+number_in (Of (k.Number n y)) = record { value = n; kind = y }
+number_in t = record { value = 0; kind = number_type.Gint }
+
+-- with `-` before it or not
+abbrev pub signed : Bool → Token → SignedNumber
+signed minus t = record { is_negative = minus; number = number_in t.terminal }
+
+-- a declaration
+abbrev pub local : CType → Token → Local
+local c n = record { declared = c; name = name_at n }
+
+-- the call of a value, up to `)`
+abbrev pub value_call : Expr → List Expr → Token → Call
+value_call a xs s = record { callee = callee.Value a; type_argument = None; arguments = xs; span = join (span_of a) (at s) }
+
+-- the call of a function of the library, up to `)`
+abbrev pub row_call : Token → Option CType → List Expr → Token → Call
+row_call n c xs s = record { callee = callee.Row (name_at n); type_argument = c; arguments = xs; span = join (at n) (at s) }
+
+-- a call, or the same whose result is stored to a place
+abbrev pub call_stmt : Option Expr → Call → Stmt
+call_stmt None c = stmt.Call c
+call_stmt (Some b) c = stmt.Store b c
+
+-- `case n: goto L;`
+abbrev pub one_case : SignedNumber → Token → Case
+one_case x n = record { number = x; label = name_at n }
