@@ -14,3 +14,5 @@ pub mod Meaning
 pub mod SoundTypes
 pub mod SoundValues
 pub mod SoundStatements
+pub mod FindTypes
+pub mod FindValues

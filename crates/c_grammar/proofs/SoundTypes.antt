@@ -24,7 +24,7 @@ sound_consts ns w x (one (took t e (got u m (gave a)))) =
     record { reads = more_const (is_word ns keyword.Const t e) (subst (λ (z : Word). ReadsConsts z (is_some_word u)) (sym (append-nil _)) m.reads); same = ap (λ (z : Word). t ∷ z) (m.same ∙ sym (append-nil _)) }
 sound_consts ns w x (other (gave a)) = record { reads = no_const; same = refl }
 
-some_star : (n : ℕ) → not (suc n == 0) ≡ true
+pub some_star : (n : ℕ) → not (suc n == 0) ≡ true
 some_star n = by_test (suc n == 0) refl
   where
     by_test : (b : Bool) → (suc n == 0) ≡ b → not b ≡ true
