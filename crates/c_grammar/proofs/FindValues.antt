@@ -108,7 +108,7 @@ Found ns c v.MoreArguments w x = FoundMore ns c w x
 
 -- 1. Operands
 
-starts_told : (a : Expr) (xs : List Suffix) → may_follow a xs ≡ true → starts_well (is_place a) xs ≡ true
+pub starts_told : (a : Expr) (xs : List Suffix) → may_follow a xs ≡ true → starts_well (is_place a) xs ≡ true
 starts_told a [] e = refl
 starts_told a (x ∷ xs) e = e
 

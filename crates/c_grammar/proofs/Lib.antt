@@ -16,3 +16,4 @@ pub mod SoundValues
 pub mod SoundStatements
 pub mod FindTypes
 pub mod FindValues
+pub mod FindStatements
