@@ -5,3 +5,6 @@ use Rattle.std.proofs.lemmas.Slice.Eq.{bytes_eq-Decides}
 
 pub same_bytes : (x y : List ℕ) → bytes_eq x y ≡ true → x ≡ y
 same_bytes x y e = (bytes_eq-Decides x y).0 e
+
+pub equal_bytes : (x y : List ℕ) → x ≡ y → bytes_eq x y ≡ true
+equal_bytes x y e = (bytes_eq-Decides x y).1 e

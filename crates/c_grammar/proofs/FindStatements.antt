@@ -282,7 +282,7 @@ pub data FoundStmts (ns : Names) : Word → List Stmt → Type 0 where
   none_found : FoundStmts ns [] []
   some_found : {u w : Word} {s : Stmt} {ss : List Stmt} → FoundStmt ns u s → Texts (at ns Statements) w ss → FoundStmts ns (u ++ w) (s ∷ ss)
 
-statement_text : (ns : Names) {w : Word} {s : Stmt} → FoundStmt ns w s → Texts (at ns Statement) w s
+pub statement_text : (ns : Names) {w : Word} {s : Stmt} → FoundStmt ns w s → Texts (at ns Statement) w s
 unfolding form
 statement_text ns {s = s} (named_stmt t i d) = text_of ns Statement (one (took t (name_passes ns t i) (last s d (gave s))))
 statement_text ns {s = s} (plain_stmt d) = text_of ns Statement (other (last s d (gave s)))
@@ -308,7 +308,7 @@ body_statements ns (some_found {s = s} (plain_stmt d) e) = text_of ns Body (othe
 body_behind_told : (ns : Names) (l : Local) {w : Word} (x : List Local × List Stmt) → Texts (at (with_local ns l) Body) w x → Told Texts (at ns Body) (body_behind ns l) w (l ∷ x.0, x.1)
 body_behind_told ns l x d = last x d (gave (l ∷ x.0, x.1))
 
-rest_text : (ns : Names) (t n e : Token) {w : Word} {c : CType} → Texts (at ns (TypeMore t)) w c → IsName n → IsSign e sign.Semicolon → Texts (at ns (LocalRest t)) (w ++ (n ∷ e ∷ [])) (local c n)
+rest_text : (ns : Names) (t n e : Token) {w : Word} {c : CType} → Texts (at ns (TypeMore [] t)) w c → IsName n → IsSign e sign.Semicolon → Texts (at ns (LocalRest t)) (w ++ (n ∷ e ∷ [])) (local c n)
 unfolding form
 rest_text ns t n e {c = c} d i j = text_of ns (LocalRest t) (one (got c d (local_end_told ns c n e (λ l. give l) i j (gave (local c n)))))
 

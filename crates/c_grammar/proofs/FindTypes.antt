@@ -88,7 +88,7 @@ find_whole ns anyhow object u v w b t n (more_const {t = t0} {w = u0} e0 d) e c 
 ap3 : {A B C D : Type 0} (f : A → B → C → D) {a a' : A} {b b' : B} {c c' : C} → a ≡ a' → b ≡ b' → c ≡ c' → f a b c ≡ f a' b' c'
 ap3 f e g h = cc
 
-same_type : (u v w : Word) (t : Token) (n : ℕ) {x : Base} {b c : Bool} → x ≡ base_of t → is_some_word u ≡ b → is_some_word v ≡ c
+pub same_type : (u v w : Word) (t : Token) (n : ℕ) {x : Base} {b c : Bool} → x ≡ base_of t → is_some_word u ≡ b → is_some_word v ≡ c
     → type_of u t v (record { word = w; stars = n }) ≡ record { base = x; is_const = b || c; stars = n; span = extent (u ++ t ∷ v ++ w) }
 same_type u v w t n e f g = ap3 (λ (x : Base) (b c : Bool). record { base = x; is_const = b || c; stars = n; span = extent (u ++ t ∷ v ++ w) }) (sym e) f g
 
@@ -103,7 +103,7 @@ find_type ns anyhow object (type_is {t = t} {u = u} {v = v} {w = w} {n = n} {x =
 pub data TypeStart (ns : Names) : Word → CType → Type 0 where
   key_start : {w : Word} {c : CType} → Texts (at ns KeyType) w c → TypeStart ns w c
   bare_start : (t : Token) → IsName t → can_be_type true (role_of ns t.bytes) ≡ true → TypeStart ns (t ∷ []) (type_of [] t [] no_stars)
-  name_start : (t : Token) {w : Word} {c : CType} → IsName t → can_be_type true (role_of ns t.bytes) ≡ true → Texts (at ns (TypeMore t)) w c → TypeStart ns (t ∷ w) c
+  name_start : (t : Token) {w : Word} {c : CType} → IsName t → can_be_type true (role_of ns t.bytes) ≡ true → Texts (at ns (TypeMore [] t)) w c → TypeStart ns (t ∷ w) c
 
 -- behind `const`
 key_const : (ns : Names) (t0 t : Token) (u0 v w : Word) (n : ℕ) {b c : Bool} → IsWord t0 keyword.Const → ReadsConsts u0 b → on ns (is_base true) (kind t) ≡ true → ReadsConsts v c → FoundStars ns w n
@@ -117,20 +117,20 @@ key_base : (ns : Names) (t : Token) (v w : Word) (n : ℕ) {c : Bool} → on ns 
 unfolding form
 key_base ns t v w n b c s m = text_of ns KeyType (other (took t b (last (type_of [] t v (record { word = w; stars = n })) (find_rest ns [] v w t n (is_void t) c s (must_star true (is_void t) n m)) (gave _))))
 
-more_const_text : (ns : Names) (t c : Token) (v w : Word) (n : ℕ) {b : Bool} → IsWord c keyword.Const → ReadsConsts v b → FoundStars ns w n → Texts (at ns (TypeMore t)) (c ∷ (v ++ w)) (type_of [] t (c ∷ v) (record { word = w; stars = n }))
+pub more_const_text : (ns : Names) (u : Word) (t c : Token) (v w : Word) (n : ℕ) {b : Bool} → IsWord c keyword.Const → ReadsConsts v b → FoundStars ns w n → Texts (at ns (TypeMore u t)) (c ∷ (v ++ w)) (type_of u t (c ∷ v) (record { word = w; stars = n }))
 unfolding form
-more_const_text ns t c v w n e d s =
-    text_of ns (TypeMore t) (one (took c (word_passes ns keyword.Const c e) (got v (find_consts ns d).text (last (record { word = w; stars = n }) (s false (λ e. absurd (true≢false (sym e)))) (gave _)))))
+more_const_text ns u t c v w n e d s =
+    text_of ns (TypeMore u t) (one (took c (word_passes ns keyword.Const c e) (got v (find_consts ns d).text (last (record { word = w; stars = n }) (s false (λ e. absurd (true≢false (sym e)))) (gave _)))))
 
-more_star_text : (ns : Names) (t : Token) (w : Word) (n : ℕ) → FoundStars ns w n → not (n == 0) ≡ true → Texts (at ns (TypeMore t)) w (type_of [] t [] (record { word = w; stars = n }))
+pub more_star_text : (ns : Names) (u : Word) (t : Token) (w : Word) (n : ℕ) → FoundStars ns w n → not (n == 0) ≡ true → Texts (at ns (TypeMore u t)) w (type_of u t [] (record { word = w; stars = n }))
 unfolding form
-more_star_text ns t w n s m = text_of ns (TypeMore t) (other (last (record { word = w; stars = n }) (s true (λ e. m)) (gave _)))
+more_star_text ns u t w n s m = text_of ns (TypeMore u t) (other (last (record { word = w; stars = n }) (s true (λ e. m)) (gave _)))
 
 named_start : (ns : Names) (t : Token) (v w : Word) (n : ℕ) {c : Bool} → IsName t → can_be_type true (role_of ns t.bytes) ≡ true → ReadsConsts v c → ReadsStars w n
     → TypeStart ns (t ∷ (v ++ w)) (type_of [] t v (record { word = w; stars = n }))
-named_start ns t v w n i r (more_const {t = c} {w = v0} e d) s = name_start t i r (more_const_text ns t c v0 w n e d (find_stars ns s))
+named_start ns t v w n i r (more_const {t = c} {w = v0} e d) s = name_start t i r (more_const_text ns [] t c v0 w n e d (find_stars ns s))
 named_start ns t v w n i r no_const no_star = bare_start t i r
-named_start ns t v w n i r no_const (more_stars {n = m} e c d) = name_start t i r (more_star_text ns t w n (find_stars ns (more_stars e c d)) (some_star m))
+named_start ns t v w n i r no_const (more_stars {n = m} e c d) = name_start t i r (more_star_text ns [] t w n (find_stars ns (more_stars e c d)) (some_star m))
 
 base_start : (ns : Names) (t : Token) (v w : Word) (n : ℕ) {x : Base} {c : Bool} → BaseIs ns true t x → ReadsConsts v c → ReadsStars w n → IfMust true (not (is_void t && n == 0))
     → TypeStart ns (t ∷ (v ++ w)) (type_of [] t v (record { word = w; stars = n }))

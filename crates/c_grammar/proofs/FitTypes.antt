@@ -37,11 +37,11 @@ fit_type_rest ns u t false = suited ns (TypeRest u t false)
     (where_fits ns (word_is keyword.Const) (a_word keyword.Const) refl (λ c. text ns refl (λ v. text ns refl (λ s. done ns (type_of u t (c ∷ v) s)) (λ s. refl) (λ s. refl)) (λ v. refl) (λ v. refl))
     (text ns refl (λ s. done ns (type_of u t [] s)) (λ s. refl) (λ s. refl)) refl refl) refl (λ a e. e) refl
 
-pub fit_type_more : (ns : Names) (t : Token) → Suited ns (TypeMore t)
+pub fit_type_more : (ns : Names) (u : Word) (t : Token) → Suited ns (TypeMore u t)
 unfolding form
-fit_type_more ns t = suited ns (TypeMore t)
-    (where_fits ns (word_is keyword.Const) (a_word keyword.Const) refl (λ c. text ns refl (λ v. text ns refl (λ s. done ns (type_of [] t (c ∷ v) s)) (λ s. refl) (λ s. refl)) (λ v. refl) (λ v. refl))
-    (text ns refl (λ s. done ns (type_of [] t [] s)) (λ s. refl) (λ s. refl)) refl tt) refl (λ a e. e) refl
+fit_type_more ns u t = suited ns (TypeMore u t)
+    (where_fits ns (word_is keyword.Const) (a_word keyword.Const) refl (λ c. text ns refl (λ v. text ns refl (λ s. done ns (type_of u t (c ∷ v) s)) (λ s. refl) (λ s. refl)) (λ v. refl) (λ v. refl))
+    (text ns refl (λ s. done ns (type_of u t [] s)) (λ s. refl) (λ s. refl)) refl tt) refl (λ a e. e) refl
 
 -- what follows the base
 pub fit_rest : (ns : Names) {r : What} (f : CType → tree_of r) (u : Word) (t : Token) (must : Bool) → is_within (stop_of r) (stop_of (TypeRest u t must)) ≡ true

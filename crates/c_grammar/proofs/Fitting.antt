@@ -61,6 +61,26 @@ module _ (ns : Names) where
       (x : Token) → on ns test (kind x) ≡ true → ((t : Token) → on ns test (kind t) ≡ true → Suits r true (f t) (z t) (o t) (k t)) → Suits r moved test never test (take up items (on ns test) k)
   token_of test {f = f} {z = z} x e rest = record { fit = takes x e (λ x i. i) (λ t. on ns (f t)) (λ t. Among (z t)) (λ t i. (rest t i).fit); opens = λ x i. opens_take i }
 
+  -- a token that passes a test of kinds, which is within a set
+  pub token_raw : {r : What} {moved : Bool} {up : ℕ → ℕ} {items : ℕ} (test : Kind → Bool) (sup : Set) {k : Token → Form C (at ns r)} {f o : Token → Set} {z : Token → Nones (tree_of r)}
+      (x : Token) → test (kind x) ≡ true → ((y : Kind) → test y ≡ true → on ns sup y ≡ true) → ((t : Token) → Suits r true (f t) (z t) (o t) (k t)) → Suits r moved sup never nothing (take up items test k)
+  token_raw test sup {f = f} {z = z} x e inside rest =
+      record { fit = takes x e inside (λ t. on ns (f t)) (λ t. Among (z t)) (λ t i. (rest t).fit); opens = λ x i. absurd (true≢false (sym i)) }
+
+  -- the way of such a token, or the other
+  pub where_raw : {r : What} {moved : Bool} {up : ℕ → ℕ} {items : ℕ} (test : Kind → Bool) (sup : Set) {h p : Set} {k : Token → Form C (at ns r)} {b : Form C (at ns r)} {f o : Token → Set} {y : Token → Nones (tree_of r)}
+      (x : Token) → test (kind x) ≡ true → ((y : Kind) → test y ≡ true → on ns sup y ≡ true) → ((t : Token) → Suits r true (f t) (y t) (o t) (k t)) → Suits r moved h never p b → is_apart h sup ≡ true
+      → Suits r moved (either sup h) never nothing (pick test (take up items test k) b)
+  where_raw {r = r} test sup {h = h} {f = f} {y = y} x e inside rest other e2 = record {
+    fit = picks test (on ns h) (λ a. ⊥) (takes x e (λ x i. i) (λ t. on ns (f t)) (λ t. Among (y t)) (λ t i. (rest t).fit)) (λ x i. i) (λ x i. or_left (on ns sup x) (on ns h x) (inside x i)) (λ x i. opens_take i)
+        other.fit (λ x i. not_raw x (test x) refl (apart ns h sup e2 x i)) (λ x i. or_right (on ns sup x) (on ns h x) i) (λ x i. absurd i) (λ x i. absurd i);
+    opens = λ x i. absurd (true≢false (sym i));
+  }
+    where
+      not_raw : (x : Kind) (b : Bool) → test x ≡ b → on ns sup x ≡ false → b ≡ false
+      not_raw x false e i = refl
+      not_raw x true e i = absurd (true≢false (sym (inside x e) ∙ i))
+
   -- what is said of a part under other names is said in these
   pub record Agrees (ms : Names) (q : What) : Type 0 where
     pub first : (x : Kind) → on ms (first_of q) x ≡ on ns (first_of q) x

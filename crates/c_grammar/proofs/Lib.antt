@@ -7,6 +7,7 @@ pub mod FitTypes
 pub mod FitChains
 pub mod FitOperands
 pub mod FitStatements
+pub mod FitItems
 pub mod Predictive
 pub mod Told
 pub mod Tokens
@@ -17,3 +18,5 @@ pub mod SoundStatements
 pub mod FindTypes
 pub mod FindValues
 pub mod FindStatements
+pub mod FindItems
+pub mod Joined

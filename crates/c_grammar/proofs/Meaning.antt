@@ -86,7 +86,7 @@ abbrev pub Means : Names → (p : What) → Word → tree_of p → Type 0
 Means ns Consts w x = AreConsts w x
 Means ns (Stars must) w x = AreStars must w x
 Means ns (TypeRest u t must) w x = EndsType u t must w x
-Means ns (TypeMore t) w x = EndsType [] t false w x
+Means ns (TypeMore u t) w x = EndsType u t false w x
 Means ns (AnyType anyhow object) w x = IsType ns anyhow object w x
 Means ns (Value k) w x = v.Reads ns k v.Value w x
 Means ns (Choosing k) w x = v.Reads ns k v.Choosing w x
@@ -118,6 +118,7 @@ Means ns (Assigned b) w x = (u : Word) (t : Token) → ReadsPlace ns u b → IsS
 Means ns (AssignedTail b a) w x = (u : Word) (t : Token) (p : Word) → ReadsPlace ns u b → IsSign t sign.Assign → v.Reads ns false v.Primary p a → ReadsStmt ns (u ++ (t ∷ (p ++ w))) x
 Means ns (ElseOf a b) w x = (i t s : Token) (u p : Word) → IsWord i keyword.If → IsSign t sign.OpenParen → v.Reads ns false v.Value u a → IsSign s sign.CloseParen → ReadsBlock ns p b
     → ReadsStmt ns (i ∷ t ∷ (u ++ (s ∷ (p ++ w)))) x
+Means ns p w x = Unit {0}
 
 -- the same of parts
 abbrev pub Meant : Meanings

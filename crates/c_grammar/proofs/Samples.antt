@@ -67,3 +67,14 @@ an_unknown ns = record { terminal = Of k.Identifier; bytes = new_name ns; start 
 -- it is of each set that has such names
 pub by_unknown : (ns : Names) (test : Set) → test (named Unknown false) ≡ true → on ns test (kind (an_unknown ns)) ≡ true
 by_unknown ns test e = ap (λ (r : Role). test (named r false)) (is_new ns) ∙ e
+
+-- a keyword and a sign at the beginning of a line
+abbrev pub a_line_word : Keyword → Token
+a_line_word w = record { terminal = Of (k.Keyword w); bytes = []; start = 0; «end» = 0; begins_line = true }
+
+abbrev pub a_line_sign : Sign → Token
+a_line_sign s = record { terminal = Of (k.Sign s); bytes = []; start = 0; «end» = 0; begins_line = true }
+
+-- a name with these letters
+abbrev pub a_name_of : List ℕ → Token
+a_name_of w = record { terminal = Of k.Identifier; bytes = w; start = 0; «end» = 0; begins_line = false }

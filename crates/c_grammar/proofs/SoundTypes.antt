@@ -73,10 +73,10 @@ sound_type_rest ns u t must w x (other (got {u = q} s n (gave a))) = stars_told 
 any_stars : {must : Bool} {q : Word} {s : Starred} → AreStars must q s → AreStars false q s
 any_stars n = record { reads = n.reads; same = n.same; some = λ e. absurd (true≢false (sym e)) }
 
-pub sound_type_more : (ns : Names) (t : Token) → Holds ns (TypeMore t)
+pub sound_type_more : (ns : Names) (u : Word) (t : Token) → Holds ns (TypeMore u t)
 unfolding form
-sound_type_more ns t w x (one (took c e (got {u = p} v m (got {u = q} s n (gave a))))) = const_told ns [] t c false v p s q e m n
-sound_type_more ns t w x (other (got {u = q} s n (gave a))) = stars_told [] t false s q (any_stars n)
+sound_type_more ns u t w x (one (took c e (got {u = p} v m (got {u = q} s n (gave a))))) = const_told ns u t c false v p s q e m n
+sound_type_more ns u t w x (other (got {u = q} s n (gave a))) = stars_told u t false s q (any_stars n)
 
 -- a base that passes the test is one
 by_terminal : (ns : Names) (anyhow : Bool) (x : Terminal) (w : List ℕ) (a b : ℕ) (l : Bool) → on ns (is_base anyhow) (record { terminal = x; bytes = w; begins_line = l }) ≡ true

@@ -1,5 +1,7 @@
 -- The grammar: the form of each part.
-use Rattle.std.specs.Prelude.{ℕ, suc, not, Bool, true, false, ◌&&◌, List, [], ◌∷◌, Option, Some, None}
+use Rattle.std.specs.Prelude.{ℕ, suc, not, Bool, true, false, ◌&&◌, List, [], ◌∷◌, Option, Some, None, codes}
+use Rattle.std.specs.List.{list_all}
+use Rattle.std.specs.Str.{bytes_eq}
 use Rattle.predictive_grammar.specs.Forms.{Signature, Form, give, take, part, pick, Productions}
 use Rattle.c_lexer.specs.declared.token.Keyword.{Keyword}
 use Rattle.c_lexer.specs.declared.token.Keyword.TheVariants as keyword
@@ -12,18 +14,22 @@ use Rattle.c_tree.specs.declared.names.CType.{CType}
 use Rattle.c_tree.specs.declared.operators.PrefixOperator.{PrefixOperator}
 use Rattle.c_tree.specs.declared.code.Suffix.{Suffix}
 use Rattle.c_tree.specs.declared.code.Local.{Local}
+use Rattle.c_tree.specs.declared.unit.Signature.{Signature as CSignature}
+use Rattle.c_tree.specs.declared.unit.Item.{Item}
+use Rattle.c_tree.specs.declared.unit.Item.TheVariants as item
 use Rattle.c_tree.specs.declared.code.Stmt.{Stmt}
 use Rattle.c_tree.specs.declared.code.Stmt.TheVariants as stmt
 use Rattle.c_tree.specs.Words.{Token, Word, join}
 use Rattle.c_tree.specs.Words as words
-use Rattle.c_tree.specs.Names.{Names, Role, TypeName, RowName, role_of, with_local}
-use Rattle.c_tree.specs.Types.{can_be_type}
+use Rattle.c_tree.specs.Names.{Names, Role, TypeName, RowName, FunctionName, role_of, declared, with_local, with_parameters, with_item, is_int}
+use Rattle.c_tree.specs.Types.{can_be_type, is_object}
+use Rattle.c_tree.specs.Items.{has_name, is_include}
 use Rattle.c_tree.specs.Values.{is_place, tighter}
 use Rattle.c_tree.specs.Make.{name_at, bracketed, link, choice, chained, suffixed, conditional, block}
-use Rattle.c_grammar.specs.Sorts.{Kind, kind, Name, Number, on}
-use Rattle.c_grammar.specs.Tests.{Set, is, sign_is, word_is, name_with, is_base, begins_type, links, is_prefix, is_value_role, is_literal, begins_primary, begins_unnamed, begins_prefixed, is_field, is_callee_role, begins_key_type, is_key_base, goes_on_type, goes_on_local, begins_plain, begins_statement}
-use Rattle.c_grammar.specs.Trees.{is_void, type_of, no_stars, one_star, operator_in, sign_prefix, cast_prefix, with_prefixes, one_prefix, name_value, literal, size_of, offset, field_suffix, index_suffix, signed, local, value_call, row_call, call_stmt, one_case}
-use Rattle.c_grammar.specs.Parts.{What, Part, tree_of, at, Consts, Stars, TypeRest, TypeMore, AnyType, Value, Choosing, ChoosingTail, Upto, Links, Operand, Prefixed, Place, Primary, Unnamed, Suffixes, Arguments, MoreArguments, KeyType, LocalOf, LocalRest, SignedNumberOf, GotoOf, Cases, BlockOf, Body, Statements, Statement, PlainStmt, NamedStmt, ValueStmt, Assigned, AssignedTail, ElseOf}
+use Rattle.c_grammar.specs.Sorts.{Kind, kind, Name, Number, Null, File, on}
+use Rattle.c_grammar.specs.Tests.{Set, is, sign_is, word_is, name_with, is_base, begins_type, links, is_prefix, is_value_role, is_literal, begins_primary, begins_unnamed, begins_prefixed, is_field, is_callee_role, begins_key_type, is_key_base, goes_on_type, goes_on_local, begins_plain, begins_statement, on_line, begins_include, begins_item, is_int_base, is_char_base, is_other_base, is_main, is_name_of, is_include_word, is_tag, is_free_name, is_info_or_type}
+use Rattle.c_grammar.specs.Trees.{is_void, type_of, no_stars, one_star, operator_in, sign_prefix, cast_prefix, with_prefixes, one_prefix, name_value, literal, size_of, offset, field_suffix, index_suffix, signed, local, value_call, row_call, call_stmt, one_case, behind_first, file_in, named_parameter, unnamed_parameter, two_stars, signature, struct_name}
+use Rattle.c_grammar.specs.Parts.{What, Part, tree_of, at, Consts, Stars, TypeRest, TypeMore, AnyType, Value, Choosing, ChoosingTail, Upto, Links, Operand, Prefixed, Place, Primary, Unnamed, Suffixes, Arguments, MoreArguments, KeyType, LocalOf, LocalRest, SignedNumberOf, GotoOf, Cases, BlockOf, Body, Statements, Statement, PlainStmt, NamedStmt, ValueStmt, Assigned, AssignedTail, ElseOf, MemberOf, Members, MoreMembers, Fields, ParameterOf, ParameterEnd, MoreParameters, ParametersOf, IntType, TextsType, TableInside, DeclaredOf, TypedEnd, StaticEnd, InfoEnd, StaticRest, TypedefRest, ItemOf, ItemsOf}
 
 -- nothing is left out with a word of its own
 abbrev pub C : Signature
@@ -185,6 +191,67 @@ called_or_value ns b a xs =
 abbrev pub value_inside : {r : Part} → Names → (Expr → Form C r) → Form C r
 value_inside ns k = opening ns sign.OpenParen (λ t. inner ns (Value false) (λ a. sign_here ns sign.CloseParen (λ s. k a)))
 
+-- a type behind these `const`, up to its stars
+abbrev pub int_behind : (ns : Names) → Word → Form C (at ns IntType)
+int_behind ns u = token ns is_int_base (λ t. just ns Consts (λ v. type_of u t v no_stars))
+
+-- the same with two stars
+abbrev pub texts_behind : (ns : Names) → Word → Form C (at ns TextsType)
+texts_behind ns u = token ns is_char_base (λ t. here ns Consts (λ v. sign_here ns sign.Star (λ p. here ns Consts (λ x. sign_here ns sign.Star (λ q. just ns Consts (λ y. type_of u t v (two_stars p x q y)))))))
+
+-- the name of a parameter, and the parameters behind it
+abbrev pub parameters_behind : (ns : Names) → CType → Form C (at ns (ParametersOf false))
+parameters_behind ns c = here ns (ParameterEnd c) (λ p. just ns MoreParameters (λ ps. p ∷ ps))
+
+-- what follows `)` of a function, by whether all parameters have names
+abbrev pub declared_end : {w : What} (ns : Names) → Bool → CSignature → (Item → tree_of w) → Form C (at ns w)
+declared_end ns true s f = where_token ns (sign_is sign.Semicolon) (λ e. give (f (item.Prototype s)))
+    (part unchanged (at (with_parameters (declared s.name FunctionName ∷ ns) s.parameters) BlockOf) (λ b. give (f (item.Function (record { signature = s; body = b })))))
+declared_end ns false s f = sign_here ns sign.Semicolon (λ e. give (f (item.Prototype s)))
+
+-- the value of a static variable
+abbrev pub variable_behind : {w : What} (ns : Names) → CType → Token → (Item → tree_of w) → Form C (at ns w)
+variable_behind ns c n f = here ns (Value true) (λ x. sign_here ns sign.Semicolon (λ e. give (f (item.Variable (record { declared = c; name = name_at n; value = x })))))
+
+-- what follows the name of a static item, by whether its type is one that something can have and whether the name is `main`
+abbrev pub static_named : (ns : Names) (t : Token) (c : CType) → Token → Bool → Bool → Form C (at ns (StaticEnd t c))
+static_named ns t c n true false = where_token ns (sign_is sign.Assign) (λ a. variable_behind ns c n (λ i. i)) (just ns (DeclaredOf true c n t.start) (λ i. i))
+static_named ns t c n true true = sign_here ns sign.Assign (λ a. variable_behind ns c n (λ i. i))
+static_named ns t c n false main = just ns (DeclaredOf true c n t.start) (λ i. i)
+
+-- the braces of a table
+abbrev pub table_behind : {w : What} (ns : Names) → Token → (Item → tree_of w) → Form C (at ns w)
+table_behind ns n f = opening ns sign.OpenBrace (λ l. inner ns TableInside (λ g. sign_here ns sign.CloseBrace (λ r. sign_here ns sign.Semicolon (λ e. give (f (item.InterfaceTable (record { name = name_at n; init = name_at g })))))))
+
+-- what follows `=` behind `static const GInterfaceInfo` and a name
+abbrev pub info_value : {w : What} (ns : Names) → CType → Token → (Item → tree_of w) → Form C (at ns w)
+info_value ns c n f = pick (on ns (sign_is sign.OpenBrace)) (table_behind ns n f) (variable_behind ns c n f)
+
+-- what follows the name, by the same as of a static item
+abbrev pub info_named : (ns : Names) (t k i : Token) → Token → CType → Bool → Bool → Form C (at ns (InfoEnd t k i))
+info_named ns t k i n c true false = where_token ns (sign_is sign.Assign) (λ a. info_value ns c n (λ i. i)) (just ns (DeclaredOf true c n t.start) (λ i. i))
+info_named ns t k i n c true true = sign_here ns sign.Assign (λ a. info_value ns c n (λ i. i))
+info_named ns t k i n c false main = just ns (DeclaredOf true c n t.start) (λ i. i)
+
+-- what follows `static const GInterfaceInfo`, by whether that is the name of a type
+abbrev pub info_behind : (ns : Names) (t k i : Token) → CType → Bool → Form C (at ns (InfoEnd t k i))
+info_behind ns t k i c true =
+    pick (on ns goes_on_type) (here ns (TypeMore (k ∷ []) i) (λ d. just ns (StaticEnd t d) (λ i. i))) (take unchanged 0 (is_free_name (is_object c)) (λ n. info_named ns t k i n c (is_object c) (is_main n.bytes)))
+info_behind ns t k i c false = token ns (is Name) (λ n. sign_here ns sign.Assign (λ a. table_behind ns n (λ i. i)))
+
+-- the type of a static item, from its base on
+abbrev pub static_type : (ns : Names) (t : Token) → Word → Token → Form C (at ns (StaticRest t))
+static_type ns t u b = here ns (TypeRest u b false) (λ c. just ns (StaticEnd t c) (λ i. i))
+
+-- behind `static const` and a name
+abbrev pub static_const : (ns : Names) (t k i : Token) → Bool → Form C (at ns (StaticRest t))
+static_const ns t k i true = just ns (InfoEnd t k i) (λ i. i)
+static_const ns t k i false = static_type ns t (k ∷ []) i
+
+-- the type of an item, from its base on
+abbrev pub typed_item : {line : Bool} (ns : Names) → Word → Token → Form C (at ns (ItemOf line))
+typed_item ns u b = here ns (TypeRest u b false) (λ c. just ns (TypedEnd c) (λ i. i))
+
 -- 3. Forms
 
 -- the form of each part
@@ -194,8 +261,8 @@ form ns (Stars true) = sign_here ns sign.Star (λ t. here ns Consts (λ u. just 
 form ns (Stars false) = where_token ns (sign_is sign.Star) (λ t. here ns Consts (λ u. just ns (Stars false) (λ s. one_star t u s))) (give no_stars)
 form ns (TypeRest u t must) =
     where_token ns (word_is keyword.Const) (λ c. here ns Consts (λ v. just ns (Stars must) (λ s. type_of u t (c ∷ v) s))) (just ns (Stars must) (λ s. type_of u t [] s))
-form ns (TypeMore t) =
-    where_token ns (word_is keyword.Const) (λ c. here ns Consts (λ v. just ns (Stars false) (λ s. type_of [] t (c ∷ v) s))) (just ns (Stars true) (λ s. type_of [] t [] s))
+form ns (TypeMore u t) =
+    where_token ns (word_is keyword.Const) (λ c. here ns Consts (λ v. just ns (Stars false) (λ s. type_of u t (c ∷ v) s))) (just ns (Stars true) (λ s. type_of u t [] s))
 form ns (AnyType anyhow object) =
     where_token ns (word_is keyword.Const) (λ t. here ns Consts (λ u. base_behind ns anyhow object (t ∷ u) (λ c. c))) (base_behind ns anyhow object [] (λ c. c))
 form ns (Value c) = just ns (Choosing c) (λ r. conditional r.0 r.1)
@@ -229,7 +296,7 @@ form ns MoreArguments = where_token ns (sign_is sign.Comma) (λ t. here ns (Valu
 form ns KeyType =
     where_token ns (word_is keyword.Const) (λ t. here ns Consts (λ u. base_behind ns true true (t ∷ u) (λ c. c))) (token ns is_key_base (λ t. just ns (TypeRest [] t (is_void t)) (λ c. c)))
 form ns LocalOf = here ns (AnyType true true) (λ c. local_end ns c (λ l. give l))
-form ns (LocalRest t) = pick (on ns goes_on_type) (here ns (TypeMore t) (λ c. local_end ns c (λ l. give l))) (local_end ns (type_of [] t [] no_stars) (λ l. give l))
+form ns (LocalRest t) = pick (on ns goes_on_type) (here ns (TypeMore [] t) (λ c. local_end ns c (λ l. give l))) (local_end ns (type_of [] t [] no_stars) (λ l. give l))
 form ns SignedNumberOf = where_token ns (sign_is sign.Minus) (λ m. token ns (is Number) (λ t. give (signed true t))) (token ns (is Number) (λ t. give (signed false t)))
 form ns GotoOf = token ns (word_is keyword.Goto) (λ t. token ns (is Name) (λ n. sign_here ns sign.Semicolon (λ e. give n)))
 form ns Cases =
@@ -263,6 +330,48 @@ form ns (Assigned b) =
     (here ns Unnamed (λ a. just ns (AssignedTail b a) (λ s. s))))))
 form ns (AssignedTail b a) = here ns (Suffixes (is_place a) false) (λ xs. called_or_value ns b a xs)
 form ns (ElseOf a b) = where_token ns (word_is keyword.Else) (λ l. just ns BlockOf (λ d. stmt.If a b (Some d))) (give (stmt.If a b None))
+form ns MemberOf = token ns (is Name) (λ n. sign_here ns sign.Assign (λ e. just ns SignedNumberOf (λ x. record { name = name_at n; number = x })))
+form ns Members = here ns MemberOf (λ m. just ns MoreMembers (λ ms. m ∷ ms))
+form ns MoreMembers = where_token ns (sign_is sign.Comma) (λ t. here ns MemberOf (λ m. just ns MoreMembers (λ ms. m ∷ ms))) (give [])
+form ns Fields = pick (on ns (begins_type true)) (here ns LocalOf (λ l. just ns Fields (λ ls. l ∷ ls))) (give [])
+form ns ParameterOf = here ns (AnyType true true) (λ c. just ns (ParameterEnd c) (λ p. p))
+form ns (ParameterEnd c) = where_token ns (is Name) (λ n. give (named_parameter c n)) (give (unnamed_parameter c))
+form ns MoreParameters = where_token ns (sign_is sign.Comma) (λ t. here ns ParameterOf (λ p. just ns MoreParameters (λ ps. p ∷ ps))) (give [])
+form ns (ParametersOf true) = here ns IntType (λ c. here ns (ParameterEnd c) (λ p. sign_here ns sign.Comma (λ m. here ns TextsType (λ d. just ns (ParameterEnd d) (λ q. p ∷ q ∷ [])))))
+form ns (ParametersOf false) =
+    where_token ns (word_is keyword.Void) (λ t. pick (on ns goes_on_type) (here ns (TypeRest [] t true) (λ c. parameters_behind ns c)) (give []))
+    (where_token ns (word_is keyword.Const) (λ t. here ns Consts (λ u. token ns (is_base true) (λ b. here ns (TypeRest (t ∷ u) b (is_void b)) (λ c. parameters_behind ns c))))
+    (token ns is_other_base (λ b. here ns (TypeRest [] b false) (λ c. parameters_behind ns c))))
+form ns IntType = where_token ns (word_is keyword.Const) (λ t. here ns Consts (λ u. int_behind ns (t ∷ u))) (int_behind ns [])
+form ns TextsType = where_token ns (word_is keyword.Const) (λ t. here ns Consts (λ u. texts_behind ns (t ∷ u))) (texts_behind ns [])
+form ns TableInside = opening ns sign.OpenParen (λ p. take inside 0 (is_name_of (codes "GInterfaceInitFunc")) (λ y. sign_here ns sign.CloseParen (λ q. token ns (is Name) (λ f.
+    sign_here ns sign.Comma (λ d. token ns (is Null) (λ x. sign_here ns sign.Comma (λ m. token ns (is Null) (λ z. give f))))))))
+form ns (DeclaredOf b c n from) = opening ns sign.OpenParen (λ o. inner ns (ParametersOf (is_main n.bytes)) (λ ps. sign_here ns sign.CloseParen (λ s.
+    declared_end ns (list_all has_name ps) (signature b c n ps from s) (λ i. i))))
+form ns (TypedEnd c) = take unchanged 0 (is_free_name (is_int ns c)) (λ n. just ns (DeclaredOf false c n c.span.start) (λ i. i))
+form ns (StaticEnd t c) = take unchanged 0 (is_free_name (is_object c)) (λ n. static_named ns t c n (is_object c) (is_main n.bytes))
+form ns (InfoEnd t k i) = info_behind ns t k i (type_of (k ∷ []) i [] no_stars) (can_be_type true (role_of ns i.bytes))
+form ns (StaticRest t) =
+    where_token ns (word_is keyword.Const) (λ k.
+        pick (is_info_or_type ns) (take unchanged 0 (is_info_or_type ns) (λ i. static_const ns t k i (bytes_eq i.bytes (codes "GInterfaceInfo"))))
+        (where_token ns (word_is keyword.Const) (λ x. here ns Consts (λ u. token ns (is_base true) (λ b. static_type ns t (k ∷ x ∷ u) b)))
+        (token ns is_key_base (λ b. static_type ns t (k ∷ []) b))))
+    (token ns (is_base true) (λ b. static_type ns t [] b))
+form ns (TypedefRest t) =
+    where_token ns (word_is keyword.Struct) (λ s. take unchanged 0 is_tag (λ g. take unchanged 0 (is_name_of (behind_first g.bytes)) (λ n. sign_here ns sign.Semicolon (λ e. give (item.StructType (name_at n))))))
+    (where_token ns (word_is keyword.Enum) (λ s. opening ns sign.OpenBrace (λ l. inner ns Members (λ ms. sign_here ns sign.CloseBrace (λ r. token ns (is Name) (λ n. sign_here ns sign.Semicolon (λ e.
+        give (item.Enumeration (record { members = ms; name = name_at n }))))))))
+    (here ns (AnyType true false) (λ r. opening ns sign.OpenParen (λ o. token_inside ns (sign_is sign.Star) (λ s. token_inside ns (is Name) (λ n. sign_here ns sign.CloseParen (λ c. opening ns sign.OpenParen (λ p.
+        inner ns (ParametersOf false) (λ ps. sign_here ns sign.CloseParen (λ q. sign_here ns sign.Semicolon (λ e. give (item.FunctionType (signature false r n ps t.start q)))))))))))))
+form ns (ItemOf line) =
+    where_token ns begins_include (λ t. take unchanged 0 is_include_word (λ i. token ns (is File) (λ h. give (item.Include (file_in h.terminal)))))
+    (where_token ns (on_line line (word_is keyword.Typedef)) (λ t. just ns (TypedefRest t) (λ i. i))
+    (where_token ns (on_line line (word_is keyword.Struct)) (λ s. take unchanged 0 is_tag (λ g. opening ns sign.OpenBrace (λ l. inner ns Fields (λ fs. sign_here ns sign.CloseBrace (λ r. sign_here ns sign.Semicolon (λ e.
+        give (item.Struct (record { name = struct_name g; fields = fs }))))))))
+    (where_token ns (on_line line (word_is keyword.Static)) (λ t. just ns (StaticRest t) (λ i. i))
+    (where_token ns (on_line line (word_is keyword.Const)) (λ t. here ns Consts (λ u. token ns (is_base true) (λ b. typed_item ns (t ∷ u) b)))
+    (token ns (on_line line (is_base true)) (λ b. typed_item ns [] b))))))
+form ns (ItemsOf line) = pick (on ns (begins_item line)) (here ns (ItemOf line) (λ i. part unchanged (at (with_item ns i) (ItemsOf (is_include i))) (λ is. give (i ∷ is)))) (give [])
 
 -- the form of each part
 abbrev pub forms : Productions C

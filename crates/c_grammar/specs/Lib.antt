@@ -4,3 +4,4 @@ pub mod Tests
 pub mod Trees
 pub mod Grammar
 pub mod Tables
+pub mod Laws

@@ -8,7 +8,9 @@
 -- part of its own (`Place`), in which a suffix must follow what is no place itself; and behind `void`, where nothing but an object can stand, a `*`
 -- must follow (`TypeRest`). Where several parts begin alike, what follows their common beginning is a part: what follows an operand of a chain
 -- (`Upto`, `ChoosingTail`), a name that may begin a declaration, a label, a call or a place (`LocalRest`, `NamedStmt`), an operand that is called or
--- stored to (`ValueStmt`), and what is stored, a value or the callee of a call (`Assigned`, `AssignedTail`).
+-- stored to (`ValueStmt`), and what is stored, a value or the callee of a call (`Assigned`, `AssignedTail`). A function named `main` has a part of
+-- its own between its brackets, and no other function may have that name, which its token tells. Behind an include line stand items whose first token
+-- must begin a line.
 --
 -- The level of a token is how many brackets and `?` are open behind it, so that 65 levels are what `is_shallow` allows.
 use Rattle.std.specs.Prelude.{ℕ, Bool, List}
@@ -24,6 +26,9 @@ use Rattle.c_tree.specs.declared.code.Case.{Case}
 use Rattle.c_tree.specs.declared.code.Stmt.{Stmt}
 use Rattle.c_tree.specs.declared.code.Block.{Block}
 use Rattle.c_tree.specs.declared.names.SignedNumber.{SignedNumber}
+use Rattle.c_tree.specs.declared.unit.Member.{Member}
+use Rattle.c_tree.specs.declared.unit.Parameter.{Parameter}
+use Rattle.c_tree.specs.declared.unit.Item.{Item}
 use Rattle.c_tree.specs.Words.{Token, Word}
 use Rattle.c_tree.specs.Names.{Names}
 
@@ -36,7 +41,7 @@ pub data What : Type 0 where
   -- what follows these `const` and this base of a type; a `*` must or not
   TypeRest : Word → Token → Bool → What
   -- what follows this base, where there is something
-  TypeMore : Token → What
+  TypeMore : Word → Token → What
   -- a type; whether an undeclared name is one; whether it must be one that something can have
   AnyType : Bool → Bool → What
   -- the parts of values, as a constant or not
@@ -85,6 +90,34 @@ pub data What : Type 0 where
   AssignedTail : Expr → Expr → What
   -- what follows `if`, this value and this block
   ElseOf : Expr → Block → What
+  -- `A = n`; members with commas between; those behind the first
+  MemberOf : What
+  Members : What
+  MoreMembers : What
+  -- the fields of a struct
+  Fields : What
+  -- a parameter; what follows its type; those behind the first; what stands between the brackets, of `main` or not
+  ParameterOf : What
+  ParameterEnd : CType → What
+  MoreParameters : What
+  ParametersOf : Bool → What
+  -- a type that means `int`, and one that means `char **`
+  IntType : What
+  TextsType : What
+  -- what stands in the braces of a table
+  TableInside : What
+  -- what follows the name of what is declared as a function: whether it is static, its result, its name, and where it begins
+  DeclaredOf : Bool → CType → Token → ℕ → What
+  -- what follows the type of an item without `static`; of one with it
+  TypedEnd : CType → What
+  StaticEnd : Token → CType → What
+  -- what follows `static const GInterfaceInfo`; what follows `static`; what follows `typedef`
+  InfoEnd : Token → Token → Token → What
+  StaticRest : Token → What
+  TypedefRest : Token → What
+  -- an item, and items; whether the first token must begin a line
+  ItemOf : Bool → What
+  ItemsOf : Bool → What
 
 -- Stars as they are written, and how many they are.
 pub record Starred : Type 0 where
@@ -96,7 +129,7 @@ abbrev pub tree_of : What → Type 0
 tree_of Consts = Word
 tree_of (Stars must) = Starred
 tree_of (TypeRest u t must) = CType
-tree_of (TypeMore t) = CType
+tree_of (TypeMore u t) = CType
 tree_of (AnyType anyhow object) = CType
 tree_of (Value c) = Expr
 tree_of (Choosing c) = List Choice × Expr
@@ -127,6 +160,25 @@ tree_of (ValueStmt a) = Stmt
 tree_of (Assigned b) = Stmt
 tree_of (AssignedTail b a) = Stmt
 tree_of (ElseOf a b) = Stmt
+tree_of MemberOf = Member
+tree_of Members = List Member
+tree_of MoreMembers = List Member
+tree_of Fields = List Local
+tree_of ParameterOf = Parameter
+tree_of (ParameterEnd c) = Parameter
+tree_of MoreParameters = List Parameter
+tree_of (ParametersOf main) = List Parameter
+tree_of IntType = CType
+tree_of TextsType = CType
+tree_of TableInside = Token
+tree_of (DeclaredOf b c n at) = Item
+tree_of (TypedEnd c) = Item
+tree_of (StaticEnd t c) = Item
+tree_of (InfoEnd t k i) = Item
+tree_of (StaticRest t) = Item
+tree_of (TypedefRest t) = Item
+tree_of (ItemOf line) = Item
+tree_of (ItemsOf line) = List Item
 
 -- A part: what is read, and the names in scope.
 pub record Part : Type 0 where

@@ -6,10 +6,10 @@ use Rattle.c_lexer.specs.declared.token.Sign.TheVariants as sign
 use Rattle.c_tree.specs.declared.operators.Level.{Level}
 use Rattle.c_tree.specs.declared.operators.Level.TheVariants as level
 use Rattle.c_tree.specs.declared.code.Stmt.TheVariants as stmt
-use Rattle.c_grammar.specs.Sorts.{Kind, Number, on}
-use Rattle.c_grammar.specs.Tests.{Set, is, sign_is, word_is, begins_type, goes_on_type, goes_on_local, begins_key_type, begins_plain, begins_statement, begins_body, goes_on_statement, begins_assigned, links, links_up_to, level_number, begins_primary, begins_unnamed, begins_prefixed, begins_place, begins_suffix}
-use Rattle.c_grammar.specs.Trees.{type_of, no_stars}
-use Rattle.c_grammar.specs.Parts.{What, Part, tree_of, Consts, Stars, TypeRest, TypeMore, AnyType, Value, Choosing, ChoosingTail, Upto, Links, Operand, Prefixed, Place, Primary, Unnamed, Suffixes, Arguments, MoreArguments, KeyType, LocalOf, LocalRest, SignedNumberOf, GotoOf, Cases, BlockOf, Body, Statements, Statement, PlainStmt, NamedStmt, ValueStmt, Assigned, AssignedTail, ElseOf}
+use Rattle.c_grammar.specs.Sorts.{Kind, Name, Number, on}
+use Rattle.c_grammar.specs.Tests.{Set, is, sign_is, word_is, begins_type, goes_on_type, goes_on_local, begins_key_type, begins_plain, begins_statement, begins_body, goes_on_statement, begins_assigned, begins_item, is_int_base, is_char_base, links, links_up_to, level_number, begins_primary, begins_unnamed, begins_prefixed, begins_place, begins_suffix}
+use Rattle.c_grammar.specs.Trees.{type_of, no_stars, unnamed_parameter}
+use Rattle.c_grammar.specs.Parts.{What, Part, tree_of, Consts, Stars, TypeRest, TypeMore, AnyType, Value, Choosing, ChoosingTail, Upto, Links, Operand, Prefixed, Place, Primary, Unnamed, Suffixes, Arguments, MoreArguments, KeyType, LocalOf, LocalRest, SignedNumberOf, GotoOf, Cases, BlockOf, Body, Statements, Statement, PlainStmt, NamedStmt, ValueStmt, Assigned, AssignedTail, ElseOf, MemberOf, Members, MoreMembers, Fields, ParameterOf, ParameterEnd, MoreParameters, ParametersOf, IntType, TextsType, TableInside, DeclaredOf, TypedEnd, StaticEnd, InfoEnd, StaticRest, TypedefRest, ItemOf, ItemsOf}
 use Rattle.c_grammar.specs.Grammar.{C}
 
 -- what goes on with an operand: suffixes and signs between operands, up to a level
@@ -29,7 +29,7 @@ abbrev pub first_of : What → Set
 first_of Consts c = word_is keyword.Const c
 first_of (Stars must) c = sign_is sign.Star c
 first_of (TypeRest u t must) c = goes_on_type c
-first_of (TypeMore t) c = goes_on_type c
+first_of (TypeMore u t) c = goes_on_type c
 first_of (AnyType anyhow object) c = begins_type anyhow c
 first_of (Value k) c = begins_prefixed k c
 first_of (Choosing k) c = begins_prefixed k c
@@ -60,6 +60,25 @@ first_of (ValueStmt a) c = goes_on_statement c
 first_of (Assigned b) c = begins_assigned c
 first_of (AssignedTail b a) c = goes_on_value c || sign_is sign.OpenParen c || sign_is sign.Semicolon c
 first_of (ElseOf a b) c = word_is keyword.Else c
+first_of MemberOf c = is Name c
+first_of Members c = is Name c
+first_of MoreMembers c = sign_is sign.Comma c
+first_of Fields c = begins_type true c
+first_of ParameterOf c = begins_type true c
+first_of (ParameterEnd t) c = is Name c
+first_of MoreParameters c = sign_is sign.Comma c
+first_of (ParametersOf main) c = begins_type true c
+first_of IntType c = word_is keyword.Const c || is_int_base c
+first_of TextsType c = word_is keyword.Const c || is_char_base c
+first_of TableInside c = sign_is sign.OpenParen c
+first_of (DeclaredOf b t n from) c = sign_is sign.OpenParen c
+first_of (TypedEnd t) c = is Name c
+first_of (StaticEnd s t) c = is Name c
+first_of (InfoEnd t k i) c = is Name c || goes_on_type c
+first_of (StaticRest t) c = begins_type true c || is Name c
+first_of (TypedefRest t) c = word_is keyword.Struct c || word_is keyword.Enum c || begins_type true c
+first_of (ItemOf line) c = begins_item line c
+first_of (ItemsOf line) c = true
 
 -- which it surely takes: all of these, but where that is not asked
 abbrev pub opens_of : What → Set
@@ -69,6 +88,13 @@ opens_of (NamedStmt t) c = false
 opens_of (ValueStmt a) c = false
 opens_of (AssignedTail b a) c = false
 opens_of Body c = false
+opens_of (ParameterEnd t) c = false
+opens_of (ParametersOf main) c = false
+opens_of (TypedEnd t) c = false
+opens_of (StaticEnd s t) c = false
+opens_of (InfoEnd t k i) c = false
+opens_of (StaticRest t) c = false
+opens_of (ItemsOf line) c = false
 opens_of w c = first_of w c
 
 -- which tree it has where it is empty
@@ -85,6 +111,11 @@ none_of MoreArguments x = x ≡ []
 none_of Body x = x ≡ ([], [])
 none_of Statements x = x ≡ []
 none_of (ElseOf a b) x = x ≡ stmt.If a b None
+none_of MoreMembers x = x ≡ []
+none_of Fields x = x ≡ []
+none_of (ParameterEnd c) x = x ≡ unnamed_parameter c
+none_of MoreParameters x = x ≡ []
+none_of (ItemsOf line) x = x ≡ []
 none_of w x = ⊥
 
 -- in front of which classes it ends
@@ -92,7 +123,7 @@ abbrev pub stop_of : What → Set
 stop_of Consts c = not (word_is keyword.Const c)
 stop_of (Stars must) c = not (goes_on_type c)
 stop_of (TypeRest u t must) c = not (goes_on_type c)
-stop_of (TypeMore t) c = not (goes_on_type c)
+stop_of (TypeMore u t) c = not (goes_on_type c)
 stop_of (AnyType anyhow object) c = not (goes_on_type c)
 stop_of (Value k) c = not (goes_on_value c)
 stop_of (Choosing k) c = not (goes_on_value c)
@@ -113,6 +144,16 @@ stop_of Statements c = sign_is sign.CloseBrace c
 stop_of Statement c = not (word_is keyword.Else c)
 stop_of PlainStmt c = not (word_is keyword.Else c)
 stop_of (ElseOf a b) c = not (word_is keyword.Else c)
+stop_of Members c = not (sign_is sign.Comma c)
+stop_of MoreMembers c = not (sign_is sign.Comma c)
+stop_of Fields c = sign_is sign.CloseBrace c
+stop_of ParameterOf c = not (goes_on_type c || is Name c)
+stop_of (ParameterEnd t) c = not (is Name c)
+stop_of MoreParameters c = sign_is sign.CloseParen c
+stop_of (ParametersOf main) c = sign_is sign.CloseParen c
+stop_of IntType c = not (word_is keyword.Const c)
+stop_of TextsType c = not (word_is keyword.Const c)
+stop_of (ItemsOf line) c = false
 stop_of w c = true
 
 -- how far a part stands above those that it asks for first
@@ -120,7 +161,7 @@ abbrev pub rank_of : What → ℕ
 rank_of Consts = 0
 rank_of (Stars must) = 0
 rank_of (TypeRest u t must) = 1
-rank_of (TypeMore t) = 1
+rank_of (TypeMore u t) = 1
 rank_of (AnyType anyhow object) = 2
 rank_of (Upto l k a) = suc (level_number l)
 rank_of (ChoosingTail k a) = 11
@@ -142,6 +183,16 @@ rank_of (NamedStmt t) = 14
 rank_of (ValueStmt a) = 12
 rank_of (AssignedTail b a) = 12
 rank_of (Assigned b) = 14
+rank_of Members = 1
+rank_of Fields = 4
+rank_of ParameterOf = 3
+rank_of (ParametersOf main) = 4
+rank_of IntType = 2
+rank_of TextsType = 2
+rank_of (TypedefRest t) = 3
+rank_of (InfoEnd t k i) = 2
+rank_of (ItemOf line) = 4
+rank_of (ItemsOf line) = 5
 rank_of w = 0
 
 abbrev pub tables : Tables C

@@ -1,5 +1,6 @@
 -- The sets of tokens by which forms decide, by their classes.
-use Rattle.std.specs.Prelude.{ℕ, ◌==◌, nat_le, not, Bool, true, false, ◌&&◌, ◌||◌, List, [], ◌∷◌, Option, Some, None}
+use Rattle.std.specs.Prelude.{ℕ, ◌==◌, nat_le, not, Bool, true, false, ◌&&◌, ◌||◌, List, [], ◌∷◌, Option, Some, None, codes}
+use Rattle.std.specs.Str.{bytes_eq}
 use Rattle.c_lexer.specs.declared.token.Keyword.{Keyword}
 use Rattle.c_lexer.specs.declared.token.Keyword.TheVariants as keyword
 use Rattle.c_lexer.specs.declared.token.Sign.{Sign}
@@ -9,10 +10,11 @@ use Rattle.c_tree.specs.declared.operators.Level.{Level}
 use Rattle.c_tree.specs.declared.operators.Level.TheVariants as level
 use Rattle.c_tree.specs.declared.operators.Prefix.{Prefix}
 use Rattle.c_tree.specs.Kinds.{level_of}
-use Rattle.c_tree.specs.Names.{Role, RowName, FunctionName, MemberName}
-use Rattle.c_tree.specs.Types.{can_be_type}
+use Rattle.c_tree.specs.Names.{Names, Role, TypeName, RowName, FunctionName, MemberName, AnInt, AChar, meaning_of_role, is_an_int, is_a_char, is_int}
+use Rattle.c_tree.specs.declared.names.CType.{CType}
+use Rattle.c_tree.specs.Types.{can_be_type, is_object}
 use Rattle.c_tree.specs.Values.{binary_of, prefix_of, is_variable}
-use Rattle.c_grammar.specs.Sorts.{Sort, Name, Number, Character, Text, Null, Capital, OfSign, OfWord, Class, same}
+use Rattle.c_grammar.specs.Sorts.{Sort, Kind, on, Name, Number, Character, Text, Null, Capital, OfSign, OfWord, File, Class, same}
 
 -- a set of classes
 abbrev pub Set : Type 0
@@ -174,3 +176,66 @@ goes_on_statement c = begins_suffix true c || sign_is sign.Assign c || sign_is s
 -- what a value or a call begins with
 abbrev pub begins_assigned : Set
 begins_assigned c = name_with is_callee_role c || is_prefix false c || sign_is sign.Ampersand c || sign_is sign.OpenParen c || begins_unnamed c
+
+-- 5. Items
+
+-- the same at the beginning of a line, where it must stand there
+abbrev pub on_line : Bool → Set → Set
+on_line line test c = test c && (not line || c.begins_line)
+
+-- the `#` that begins a line
+abbrev pub begins_include : Set
+begins_include c = sign_is sign.Hash c && c.begins_line
+
+-- what an item begins with
+abbrev pub begins_item : Bool → Set
+begins_item line c =
+    begins_include c || on_line line (word_is keyword.Typedef) c || on_line line (word_is keyword.Struct) c || on_line line (word_is keyword.Static) c || on_line line (begins_type true) c
+
+-- the base of a type that means `int`, and of one that means `char`
+abbrev pub is_int_base : Set
+is_int_base c = word_is keyword.Int c || name_with (λ r. is_an_int (meaning_of_role r)) c
+
+abbrev pub is_char_base : Set
+is_char_base c = word_is keyword.Char c || name_with (λ r. is_a_char (meaning_of_role r)) c
+
+-- a base that is not `void`
+abbrev pub is_other_base : Set
+is_other_base c = word_is keyword.Int c || word_is keyword.Char c || name_with (can_be_type true) c
+
+-- what parameters begin with
+abbrev pub begins_parameters : Set
+begins_parameters c = begins_type true c
+
+-- whether these letters are `main`
+abbrev pub is_main : List ℕ → Bool
+is_main w = bytes_eq w (codes "main")
+
+-- a name; one with these letters
+abbrev pub is_any_name : Kind → Bool
+is_any_name x = on [] (is Name) x
+
+-- one with these letters
+abbrev pub is_name_of : List ℕ → Kind → Bool
+is_name_of w x = is_any_name x && bytes_eq x.bytes w
+
+-- the word `include` on the line of its `#`
+abbrev pub is_include_word : Kind → Bool
+is_include_word x = is_name_of (codes "include") x && not x.begins_line
+
+-- whether letters begin with `_`
+abbrev pub begins_low : List ℕ → Bool
+begins_low [] = false
+begins_low (b ∷ w) = b == 95
+
+-- the tag of a struct
+abbrev pub is_tag : Kind → Bool
+is_tag x = is_any_name x && begins_low x.bytes
+
+-- a name that is `main` only where that may be
+abbrev pub is_free_name : Bool → Kind → Bool
+is_free_name may_be_main x = is_any_name x && (not (is_main x.bytes) || may_be_main)
+
+-- the name of a type, or `GInterfaceInfo`
+abbrev pub is_info_or_type : Names → Kind → Bool
+is_info_or_type ns x = is_any_name x && (bytes_eq x.bytes (codes "GInterfaceInfo") || on ns (name_with (can_be_type true)) x)

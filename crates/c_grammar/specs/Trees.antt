@@ -24,9 +24,13 @@ use Rattle.c_tree.specs.declared.code.Local.{Local}
 use Rattle.c_tree.specs.declared.code.Callee.TheVariants as callee
 use Rattle.c_tree.specs.declared.code.Call.{Call}
 use Rattle.c_tree.specs.declared.code.Case.{Case}
+use Rattle.c_tree.specs.declared.unit.Include.{Include}
+use Rattle.c_tree.specs.declared.unit.Include.TheVariants as include
+use Rattle.c_tree.specs.declared.unit.Parameter.{Parameter}
+use Rattle.c_tree.specs.declared.unit.Signature.{Signature}
 use Rattle.c_tree.specs.declared.code.Stmt.{Stmt}
 use Rattle.c_tree.specs.declared.code.Stmt.TheVariants as stmt
-use Rattle.c_tree.specs.Words.{Terminal, Of, Token, Word, at, join, extent}
+use Rattle.c_tree.specs.Words.{Terminal, Of, Header, Token, Word, at, join, extent}
 use Rattle.c_tree.specs.Names.{Names, Role, FunctionName, MemberName, role_of}
 use Rattle.c_tree.specs.Types.{is_void_base}
 use Rattle.c_tree.specs.Values.{binary_of, prefix_of}
@@ -176,3 +180,35 @@ call_stmt (Some b) c = stmt.Store b c
 -- `case n: goto L;`
 abbrev pub one_case : SignedNumber → Token → Case
 one_case x n = record { number = x; label = name_at n }
+
+-- 5. Items
+
+-- the letters behind the first
+abbrev pub behind_first : List ℕ → List ℕ
+behind_first [] = []
+behind_first (b ∷ w) = w
+
+-- the file that a token names
+abbrev pub file_in : Terminal → Include
+file_in (Header f) = f
+file_in t = include.Glib
+
+-- a parameter with a name, and one without
+abbrev pub named_parameter : CType → Token → Parameter
+named_parameter c n = record { declared = c; name = Some (name_at n) }
+
+-- the same without a name
+abbrev pub unnamed_parameter : CType → Parameter
+unnamed_parameter c = record { declared = c; name = None }
+
+-- two stars with `const` behind each
+abbrev pub two_stars : Token → Word → Token → Word → Starred
+two_stars p u q w = one_star p u (one_star q w no_stars)
+
+-- what a function takes and gives, from a place up to `)`
+abbrev pub signature : Bool → CType → Token → List Parameter → ℕ → Token → Signature
+signature b c n ps from s = record { is_static = b; result = c; name = name_at n; parameters = ps; span = record { start = from; «end» = s.«end» } }
+
+-- the name of a struct by its tag
+abbrev pub struct_name : Token → Name
+struct_name g = record { text = behind_first g.bytes; span = at g }

@@ -1,2 +1,9 @@
 // The grammar of the C dialect, as data: for each part of a text its form, which one token of lookahead reads.
 #![tactic(auto)]
+
+mod laws;
+
+pub use laws::{
+    items_are_texts, statements_are_told, texts_are_read_exactly, texts_have_one_tree,
+    tokens_are_one_unit, values_are_told,
+};

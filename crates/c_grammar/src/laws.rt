@@ -1,0 +1,36 @@
+// The laws of the grammar. The bodies do nothing: the clauses are theorems.
+
+ghost use Rattle.c_grammar.specs.Laws.{BlocksAreTold, HasOneTree, ItemsAreTexts, ReadsExactly, StatementsAreTold, TypesAreTold, ValuesAreTold};
+ghost use Rattle.c_tree.specs.Laws.{OneUnit};
+
+/// The reader of each part answers what the grammar says: the tree as far as a text goes, or the first fault.
+pub fn texts_are_read_exactly()
+    ensures { ReadsExactly }
+{}
+
+/// No text of a part has two trees.
+pub fn texts_have_one_tree()
+    ensures { HasOneTree }
+{}
+
+/// The texts of types and values are those of c_tree, with the same trees.
+pub fn values_are_told()
+    ensures types { TypesAreTold }
+    ensures values { ValuesAreTold }
+{}
+
+/// The same of statements and blocks.
+pub fn statements_are_told()
+    ensures statements { StatementsAreTold }
+    ensures blocks { BlocksAreTold }
+{}
+
+/// What c_tree says are items, is a text of items with the same trees.
+pub fn items_are_texts()
+    ensures { ItemsAreTexts }
+{}
+
+/// Tokens are one unit at most.
+pub fn tokens_are_one_unit()
+    ensures { OneUnit }
+{}
