@@ -1,6 +1,6 @@
 -- What is said of all classes is computed: of each sort, for names of each role, at a line's beginning and elsewhere. And a token of some classes.
 use Rattle.std.proofs.Common.{◌≡◌, ℕ, zero, suc, ◌==◌, Bool, true, false, ◌&&◌, List, [], ◌∷◌, refl, sym, ap, ◌∙◌, eqb-true, true≢false}
-use Rattle.predictive_grammar.proofs.Sets.{Finite, all, any, all_of, implies, implied, not_true, and_first, and_second}
+use Rattle.predictive_grammar.proofs.Sets.{Finite, all, any, all_of, implies, implied, and_first, and_second}
 use Rattle.c_lexer.specs.declared.token.Constant.{Constant}
 use Rattle.c_lexer.specs.declared.token.Constant.TheVariants as constant
 use Rattle.c_lexer.specs.declared.token.TokenKind.TheVariants as k

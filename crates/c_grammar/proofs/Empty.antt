@@ -1,5 +1,5 @@
 -- The trees of the texts without tokens.
-use Rattle.std.proofs.Common.{◌≡◌, true, false, [], ◌∷◌, None}
+use Rattle.std.proofs.Common.{true, false, [], None}
 use Rattle.c_tree.specs.declared.code.Stmt.TheVariants as stmt
 use Rattle.predictive_grammar.proofs.Fits.{Nones, never, only, Among}
 use Rattle.c_grammar.specs.Trees.{type_of, no_stars, unnamed_parameter}

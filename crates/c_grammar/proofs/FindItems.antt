@@ -1,15 +1,11 @@
 -- Items and units are read by their forms.
-use Rattle.std.proofs.Common.{◌≡◌, ℕ, zero, suc, ◌==◌, Bool, true, false, not, ◌&&◌, ◌||◌, if◌then◌else◌, List, [], ◌∷◌, ◌++◌, Option, Some, None, codes, refl, sym, ap, subst, ◌∙◌, append-nil, append_assoc, true≢false, eqb-true, arith}
+use Rattle.std.proofs.Common.{◌≡◌, ℕ, suc, ◌==◌, Bool, true, false, not, ◌&&◌, ◌||◌, if◌then◌else◌, List, [], ◌∷◌, ◌++◌, codes, refl, sym, ap, subst, ◌∙◌, append-nil, append_assoc, true≢false, eqb-true, arith}
 use Rattle.std.specs.List.{list_all}
 use Rattle.std.specs.Str.{bytes_eq}
-use Rattle.predictive_grammar.specs.Forms.{Form, give}
 use Rattle.predictive_grammar.proofs.Sets.{and_first, and_second, or_left, or_right}
-use Rattle.c_lexer.specs.declared.token.TokenKind.TheVariants as k
 use Rattle.c_lexer.specs.declared.token.Keyword.TheVariants as keyword
 use Rattle.c_lexer.specs.declared.token.Sign.TheVariants as sign
-use Rattle.c_tree.specs.declared.names.Span.{Span}
 use Rattle.c_tree.specs.declared.names.Base.{Base}
-use Rattle.c_tree.specs.declared.names.Base.TheVariants as base
 use Rattle.c_tree.specs.declared.names.CType.{CType}
 use Rattle.c_tree.specs.declared.code.Expr.{Expr}
 use Rattle.c_tree.specs.declared.code.Local.{Local}
@@ -20,18 +16,17 @@ use Rattle.c_tree.specs.declared.unit.Member.{Member}
 use Rattle.c_tree.specs.declared.unit.Parameter.{Parameter}
 use Rattle.c_tree.specs.declared.unit.Item.{Item}
 use Rattle.c_tree.specs.declared.unit.Item.TheVariants as item
-use Rattle.c_tree.specs.Words.{Terminal, Of, Header, Token, Word, IsSign, IsWord, IsName, IsNamed, BeginsLine, extent, start_of, end_of}
-use Rattle.c_tree.specs.Names.{Names, Role, TypeName, FunctionName, AnInt, AChar, Another, role_of, declared, with_parameters, with_item, is_int, is_texts, is_an_int, is_a_char, meaning_of_role, meaning_of_base, are_arguments, main_fits, not_static}
+use Rattle.c_tree.specs.Words.{Terminal, Header, Token, Word, IsSign, IsWord, IsName, IsNamed, BeginsLine, extent, start_of, end_of}
+use Rattle.c_tree.specs.Names.{Names, FunctionName, role_of, declared, with_parameters, is_int, is_texts, is_an_int, is_a_char, meaning_of_base, are_arguments, not_static}
 use Rattle.c_tree.specs.Types.{Consts as ReadsConsts, no_const, more_const, Stars as ReadsStars, no_star, more_stars, BaseIs, void_is, int_is, char_is, named_is, ReadsType, type_is, is_object, is_void_base, can_be_type}
 use Rattle.c_tree.specs.Make.{name_at}
-use Rattle.c_tree.specs.Values as v
-use Rattle.c_tree.specs.Items.{ReadsMember, member_is, ReadsMoreMembers, no_member, more_members, ReadsFields, no_field, more_fields, ReadsParameter, unnamed, named, ReadsMoreParameters, no_parameter, more_parameters, ReadsParameters, none_taken, some_taken, ReadsStatic, not_static as no_static, is_static, ReadsSignature, signature_is, has_name, IsTag, IsNull, ReadsItem, includes, struct_type, struct_is, enum_is, function_type, prototype, static_variable, interface_table, function_is, is_include, ends_line, ReadsItems, no_item, more_items}
-use Rattle.c_grammar.specs.Sorts.{Kind, kind, on, Name, Null, File}
-use Rattle.c_grammar.specs.Tests.{Set, is, sign_is, word_is, is_base, is_key_base, on_line, begins_include, begins_item, is_int_base, is_char_base, is_other_base, is_main, is_free_name, is_info_or_type, is_name_of, begins_low, goes_on_type}
-use Rattle.c_grammar.specs.Trees.{is_some_word, base_of, base_in, is_void, type_of, no_stars, behind_first, file_in, named_parameter, unnamed_parameter, two_stars, signature, struct_name}
-use Rattle.c_grammar.specs.Parts.{What, Starred, tree_of, at, TypeRest, TypeMore, Value, BlockOf, MemberOf, Members, MoreMembers, Fields, ParameterOf, ParameterEnd, MoreParameters, ParametersOf, IntType, TextsType, TableInside, DeclaredOf, TypedEnd, StaticEnd, InfoEnd, StaticRest, TypedefRest, ItemOf, ItemsOf}
-use Rattle.c_grammar.specs.Grammar.{C, form, int_behind, texts_behind, parameters_behind, declared_end, variable_behind, static_named, table_behind, info_value, info_named, info_behind, static_type, static_const, typed_item}
-use Rattle.c_grammar.proofs.Bytes.{same_bytes, equal_bytes}
+use Rattle.c_tree.specs.Items.{ReadsMember, member_is, ReadsMoreMembers, no_member, more_members, ReadsFields, no_field, more_fields, ReadsParameter, unnamed, named, ReadsMoreParameters, no_parameter, more_parameters, ReadsParameters, none_taken, some_taken, ReadsStatic, not_static as no_static, is_static, ReadsSignature, signature_is, has_name, IsTag, IsNull, ReadsItem, includes, struct_type, struct_is, enum_is, function_type, prototype, static_variable, interface_table, function_is, is_include, ReadsItems, no_item, more_items}
+use Rattle.c_grammar.specs.Sorts.{kind, on, Null, File}
+use Rattle.c_grammar.specs.Tests.{Set, is, word_is, is_base, is_key_base, on_line, is_int_base, is_char_base, is_other_base, is_main, is_free_name, is_info_or_type, is_name_of, begins_low}
+use Rattle.c_grammar.specs.Trees.{base_in, is_void, type_of, no_stars, behind_first, file_in, named_parameter, unnamed_parameter, two_stars, signature, struct_name}
+use Rattle.c_grammar.specs.Parts.{What, Starred, tree_of, at, TypeMore, Value, BlockOf, MemberOf, Members, MoreMembers, Fields, ParameterOf, ParameterEnd, MoreParameters, ParametersOf, IntType, TextsType, TableInside, DeclaredOf, TypedEnd, StaticEnd, InfoEnd, StaticRest, TypedefRest, ItemOf, ItemsOf}
+use Rattle.c_grammar.specs.Grammar.{form, int_behind, texts_behind, parameters_behind, declared_end, variable_behind, static_named, table_behind, info_value, info_named, info_behind, static_type, static_const}
+use Rattle.c_grammar.proofs.Bytes.{equal_bytes}
 use Rattle.c_grammar.proofs.Told.{Told, gave, took, got, one, other, last, Texts, text_of}
 use Rattle.c_grammar.proofs.Tokens.{passes, sign_passes, word_passes, name_passes, name_with_passes}
 use Rattle.c_grammar.proofs.Meaning.{IfMust}
@@ -158,7 +153,7 @@ char_base ns (int_is e) h = absurd (true≢false (sym h))
 char_base ns {t = t} (char_is e) h = passes ns is_char_base t e refl
 char_base ns {t = t} (named_is e r) h = passes ns is_char_base t e h
 
-and_true : {a b : Bool} → a ≡ true → b ≡ true → (a && b) ≡ true
+pub and_true : {a b : Bool} → a ≡ true → b ≡ true → (a && b) ≡ true
 and_true {a} {b} e f = ap (λ (x : Bool). x && b) e ∙ f
 
 int_told : (ns : Names) (u : Word) (t : Token) {v : Word} {b : Bool} → on ns is_int_base (kind t) ≡ true → ReadsConsts v b → Told Texts (at ns IntType) (int_behind ns u) (t ∷ v) (type_of u t v no_stars)
@@ -243,7 +238,7 @@ find_parameters ns (some_taken {t = t} s {u = u} {w = w} i d f j) =
 -- 5. Functions
 
 -- where a function begins and ends
-end_is : (n : ℕ) (w : Word) (s : Token) → end_of n (w ++ (s ∷ [])) ≡ s.end
+pub end_is : (n : ℕ) (w : Word) (s : Token) → end_of n (w ++ (s ∷ [])) ≡ s.end
 end_is n [] s = refl
 end_is n (t ∷ w) s = end_is t.end w s
 
@@ -542,7 +537,7 @@ pub record FoundSignature (ns : Names) (w : Word) (s : Signature) : Type 0 where
   pub tree : s ≡ signature s.is_static s.result name s.parameters (start_of 0 w) parameters.closes
   pub main : IfMust (is_main name.bytes) (not_static s.is_static && is_int ns s.result && are_arguments ns s.parameters)
 
-main_told : (m a : Bool) → (if m then a else true) ≡ true → IfMust m a
+pub main_told : (m a : Bool) → (if m then a else true) ≡ true → IfMust m a
 main_told true a e i = e
 main_told false a e i = absurd (true≢false (sym i))
 
@@ -568,7 +563,7 @@ start_in : (u v w z : Word) (t : Token) {a : Bool} → ReadsConsts u a → start
 start_in u v w z t no_const = refl
 start_in u v w z t (more_const i f) = refl
 
-start_is : (ns : Names) (z : Word) {y : Word} {c : CType} → ReadsType ns true y c → start_of 0 (y ++ z) ≡ c.span.start
+pub start_is : (ns : Names) (z : Word) {y : Word} {c : CType} → ReadsType ns true y c → start_of 0 (y ++ z) ≡ c.span.start
 start_is ns z (type_is {t = t} {u = u} {v = v} {w = w} d b e s) = start_in u v w z t d
 
 -- a static function is not `main`
@@ -651,7 +646,7 @@ signature_line : {ns : Names} {w : Word} {s : Signature} → ReadsSignature ns w
 signature_line (signature_is n {w = w} st ty i pr mf) z = head_line st ty (n ∷ w) z
 
 -- an item has a token, with which the line begins or not
-item_line : {ns : Names} {w : Word} {i : Item} → ReadsItem ns w i → (z : Word) → BeginsLine (w ++ z) ≡ BeginsLine w
+pub item_line : {ns : Names} {w : Word} {i : Item} → ReadsItem ns w i → (z : Word) → BeginsLine (w ++ z) ≡ BeginsLine w
 item_line (includes e b j c d) z = refl
 item_line (struct_type a b c d f) z = refl
 item_line (struct_is r e i h j d m o) z = refl

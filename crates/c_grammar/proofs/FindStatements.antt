@@ -1,8 +1,6 @@
 -- Statements and blocks are read by their forms.
-use Rattle.std.proofs.Common.{◌≡◌, ℕ, Bool, true, false, List, [], ◌∷◌, ◌++◌, Option, Some, None, refl, sym, ap, subst, ◌∙◌, append-nil, append_assoc, true≢false}
+use Rattle.std.proofs.Common.{◌≡◌, Bool, true, false, List, [], ◌∷◌, ◌++◌, Option, Some, None, refl, sym, ap, subst, ◌∙◌, append-nil, append_assoc, true≢false}
 use Rattle.predictive_grammar.specs.Forms.{Form, give}
-use Rattle.c_lexer.specs.declared.token.NumberType.{NumberType}
-use Rattle.c_lexer.specs.declared.token.TokenKind.TheVariants as k
 use Rattle.c_lexer.specs.declared.token.Keyword.TheVariants as keyword
 use Rattle.c_lexer.specs.declared.token.Sign.TheVariants as sign
 use Rattle.c_tree.specs.declared.names.CType.{CType}
@@ -17,24 +15,24 @@ use Rattle.c_tree.specs.declared.code.Case.{Case}
 use Rattle.c_tree.specs.declared.code.Stmt.{Stmt}
 use Rattle.c_tree.specs.declared.code.Stmt.TheVariants as stmt
 use Rattle.c_tree.specs.declared.code.Block.{Block}
-use Rattle.c_tree.specs.Words.{Terminal, Of, Token, Word, IsSign, IsWord, IsName, join}
+use Rattle.c_tree.specs.Words.{Terminal, Token, Word, IsSign, IsWord, IsName, join}
 use Rattle.c_tree.specs.Words.{at as at_token}
 use Rattle.c_tree.specs.Names.{Names, Role, TypeName, RowName, VariableName, FunctionName, MemberName, Unknown, role_of, with_local, with_locals}
-use Rattle.c_tree.specs.Types.{ReadsType, is_object, can_be_type}
+use Rattle.c_tree.specs.Types.{can_be_type}
 use Rattle.c_tree.specs.Make.{name_at, suffixed, bracketed, conditional, block}
 use Rattle.c_tree.specs.Values as v
-use Rattle.c_tree.specs.Values.{Reads, is_place, is_deref}
+use Rattle.c_tree.specs.Values.{is_place, is_deref}
 use Rattle.c_tree.specs.Statements.{ReadsLocal, local_is, ReadsLocals, no_local, more_locals, ReadsNumber, number_is, negative_is, ReadsCall, call_value, call_row, call_type_row, ReadsPlace, place_is, ReadsGoto, goto_is, ReadsCases, no_case, more_cases, ReadsStmt, assigns, calls, stores, if_block, if_else, if_goto, goes, labels, switches, returns, returns_value, blocks, ReadsStmts, no_stmt, more_stmts, ReadsBlock, block_is}
-use Rattle.c_grammar.specs.Sorts.{kind, on, Name, Number}
-use Rattle.c_grammar.specs.Tests.{is, is_callee_role, is_value_role, word_is, goes_on_type, begins_key_type, begins_plain}
-use Rattle.c_grammar.specs.Trees.{type_of, no_stars, sign_prefix, cast_prefix, prefix_in, with_prefixes, one_prefix, name_value, signed, number_in, local, value_call, row_call, call_stmt, one_case}
-use Rattle.c_grammar.specs.Parts.{What, tree_of, at, TypeMore, AnyType, Prefixed, Unnamed, Value, ChoosingTail, Arguments, MoreArguments, KeyType, LocalOf, LocalRest, SignedNumberOf, GotoOf, Cases, BlockOf, Body, Statements, Statement, PlainStmt, NamedStmt, ValueStmt, Assigned, AssignedTail, ElseOf, Suffixes}
-use Rattle.c_grammar.specs.Grammar.{C, form, local_end, body_behind, statements_behind, body_named, call_behind, row_behind, label_behind, label_or, named_behind, stored_behind, value_behind, assigned_named, called_or_value, just}
+use Rattle.c_grammar.specs.Sorts.{Number}
+use Rattle.c_grammar.specs.Tests.{is, is_callee_role, is_value_role}
+use Rattle.c_grammar.specs.Trees.{type_of, no_stars, sign_prefix, cast_prefix, prefix_in, with_prefixes, one_prefix, name_value, signed, number_in, local, value_call, row_call, call_stmt}
+use Rattle.c_grammar.specs.Parts.{What, tree_of, at, TypeMore, AnyType, Prefixed, Unnamed, Value, ChoosingTail, Arguments, MoreArguments, LocalOf, LocalRest, SignedNumberOf, GotoOf, Cases, BlockOf, Body, Statements, Statement, PlainStmt, NamedStmt, ValueStmt, Assigned, AssignedTail, ElseOf, Suffixes}
+use Rattle.c_grammar.specs.Grammar.{C, form, local_end, body_behind, statements_behind, body_named, call_behind, row_behind, label_behind, named_behind, stored_behind, value_behind, assigned_named, called_or_value}
 use Rattle.c_grammar.proofs.Told.{Told, gave, took, got, one, other, last, Texts, text_of}
 use Rattle.c_grammar.proofs.Tokens.{passes, sign_passes, word_passes, name_passes, name_with_passes}
 use Rattle.c_grammar.proofs.Meaning.{IfMust, starts_well, is_some}
 use Rattle.c_grammar.proofs.FindTypes.{find_type, TypeStart, key_start, bare_start, name_start as type_name_start, start_type}
-use Rattle.c_grammar.proofs.FindValues.{PrimaryStart, name_start, unnamed_start, bracket_start, OperandStart, operand_is, PrefixedStart, sign_start, address_start, cast_start, operand_start, Split, FoundValue, starts_told, place_is_deref, deref_is_star, value_text, find}
+use Rattle.c_grammar.proofs.FindValues.{name_start, unnamed_start, bracket_start, OperandStart, operand_is, PrefixedStart, sign_start, address_start, cast_start, operand_start, FoundValue, starts_told, place_is_deref, deref_is_star, value_text, find}
 
 -- 1. Calls
 

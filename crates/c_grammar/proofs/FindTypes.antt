@@ -1,18 +1,17 @@
 -- Types are read by their forms.
-use Rattle.std.proofs.Common.{◌≡◌, ℕ, suc, ◌==◌, Bool, true, false, not, ◌&&◌, ◌||◌, List, [], ◌∷◌, ◌++◌, refl, sym, ap, subst, ◌∙◌, append-nil, append_assoc, true≢false}
-use Rattle.c_lexer.specs.declared.token.TokenKind.TheVariants as k
+use Rattle.std.proofs.Common.{◌≡◌, ℕ, suc, ◌==◌, Bool, true, false, not, ◌&&◌, ◌||◌, [], ◌∷◌, ◌++◌, refl, sym, ap, subst, append_assoc, true≢false}
 use Rattle.c_lexer.specs.declared.token.Keyword.TheVariants as keyword
 use Rattle.c_lexer.specs.declared.token.Sign.TheVariants as sign
 use Rattle.c_tree.specs.declared.names.Base.{Base}
 use Rattle.c_tree.specs.declared.names.CType.{CType}
-use Rattle.c_tree.specs.Words.{Terminal, Of, Token, Word, IsSign, IsWord, IsName, extent}
+use Rattle.c_tree.specs.Words.{Terminal, Token, Word, IsSign, IsWord, IsName, extent}
 use Rattle.c_tree.specs.Names.{Names, role_of}
 use Rattle.c_tree.specs.Make.{name_at}
 use Rattle.c_tree.specs.Types.{Consts as ReadsConsts, no_const, more_const, Stars as ReadsStars, no_star, more_stars, BaseIs, void_is, int_is, char_is, named_is, ReadsType, type_is, is_object, is_void_base, can_be_type}
 use Rattle.c_grammar.specs.Sorts.{kind, on}
 use Rattle.c_grammar.specs.Tests.{is_base, is_key_base}
-use Rattle.c_grammar.specs.Trees.{is_some_word, base_of, base_in, is_void, type_of, no_stars, one_star}
-use Rattle.c_grammar.specs.Parts.{What, Starred, tree_of, at, Consts, Stars, TypeRest, TypeMore, AnyType, KeyType}
+use Rattle.c_grammar.specs.Trees.{is_some_word, base_of, base_in, is_void, type_of, no_stars}
+use Rattle.c_grammar.specs.Parts.{at, Consts, Stars, TypeRest, TypeMore, AnyType, KeyType}
 use Rattle.c_grammar.specs.Grammar.{form, base_behind}
 use Rattle.c_grammar.proofs.Told.{Told, gave, took, got, one, other, last, Texts, text_of}
 use Rattle.c_grammar.proofs.Tokens.{sign_passes, word_passes, passes}

@@ -1,6 +1,5 @@
 -- Values are read by their forms.
-use Rattle.std.proofs.Common.{◌≡◌, ℕ, ◌==◌, Bool, true, false, not, ◌&&◌, ◌||◌, List, [], ◌∷◌, ◌++◌, Option, Some, None, ◌⊎◌, inl, inr, refl, sym, ap, subst, ◌∙◌, append-nil, append_assoc, true≢false, eq-eqb}
-use Rattle.c_lexer.specs.declared.token.NumberType.{NumberType}
+use Rattle.std.proofs.Common.{◌≡◌, ◌==◌, Bool, true, false, not, ◌&&◌, ◌||◌, List, [], ◌∷◌, ◌++◌, Option, Some, None, refl, sym, ap, subst, ◌∙◌, append-nil, append_assoc, true≢false, eq-eqb}
 use Rattle.c_lexer.specs.declared.token.Constant.{Constant}
 use Rattle.c_lexer.specs.declared.token.Constant.TheVariants as constant
 use Rattle.c_lexer.specs.declared.token.TokenKind.TheVariants as k
@@ -26,16 +25,16 @@ use Rattle.c_tree.specs.declared.code.Suffix.TheVariants as suffix
 use Rattle.c_tree.specs.Words.{Terminal, Of, Token, Word, IsSign, IsWord, IsName, join}
 use Rattle.c_tree.specs.Words.{at as at_token}
 use Rattle.c_tree.specs.Kinds.{level_of}
-use Rattle.c_tree.specs.Names.{Names, role_of, Role, TypeName, RowName, VariableName, FunctionName, MemberName, Unknown}
+use Rattle.c_tree.specs.Names.{Names, role_of, Role, VariableName, Unknown}
 use Rattle.c_tree.specs.Types.{ReadsType, is_object}
 use Rattle.c_tree.specs.Make.{name_at, expr, bracketed, suffixed, prefixed, link, choice, chained, conditional}
 use Rattle.c_tree.specs.Values as v
 use Rattle.c_tree.specs.Values.{Reads, binary_of, prefix_of, tighter, is_place, is_deref, is_dot_layer, may_follow, may_precede, is_variable, value, last_choice, more_choices, chain, no_link, more_links, operand, tightest, no_prefix, more_prefixes, cast, postfixed, no_suffix, field, arrow, index, number, character, text, constant_name, variable, function, member, size_of, offset, brackets, no_argument, arguments, no_more, more_arguments}
 use Rattle.c_grammar.specs.Sorts.{kind, on, OfSign, sign_number}
-use Rattle.c_grammar.specs.Tests.{links, is_of_level, level_number, is_prefix, is_value_role, is_literal, is_field, sign_is, word_is, sign_with, is_there, name_with, begins_type, begins_prefixed}
+use Rattle.c_grammar.specs.Tests.{links, is_of_level, level_number, is_prefix, is_value_role, is_literal, is_field, sign_with, is_there}
 use Rattle.c_grammar.specs.Trees.{operator_in, known_operator, prefix_in, sign_prefix, cast_prefix, with_prefixes, one_prefix, name_shape, name_value, literal_shape, literal, field_suffix, index_suffix}
 use Rattle.c_grammar.specs.Parts.{What, tree_of, at, AnyType, Value, Choosing, ChoosingTail, Upto, Links, Operand, Prefixed, Place, Primary, Unnamed, Suffixes, Arguments, MoreArguments}
-use Rattle.c_grammar.specs.Grammar.{form, upto_behind, tail_behind, just, cast_or_operand, suffixes_behind, place_behind, bracket_end, index_behind}
+use Rattle.c_grammar.specs.Grammar.{form, upto_behind, tail_behind, just, cast_or_operand, suffixes_behind, place_behind}
 use Rattle.c_grammar.proofs.Told.{Told, gave, took, got, one, other, last, Texts, text_of}
 use Rattle.c_grammar.proofs.Tokens.{passes, sign_passes, word_passes, name_passes, name_with_passes, with_terminal}
 use Rattle.c_grammar.proofs.Meaning.{IfMust, starts_well, is_some}

@@ -1,23 +1,19 @@
 -- Chains and choices suit the tables.
 use Rattle.std.proofs.Common.{◌≡◌, Bool, true, false, refl, [], ◌∷◌}
-use Rattle.predictive_grammar.proofs.Fits.{Nones, never, only, maybe, Among, nothing, either}
-use Rattle.c_lexer.specs.declared.token.Keyword.TheVariants as keyword
+use Rattle.predictive_grammar.proofs.Fits.{nothing, either}
 use Rattle.c_lexer.specs.declared.token.Sign.TheVariants as sign
-use Rattle.c_tree.specs.Words.{Token, Word}
 use Rattle.c_tree.specs.Names.{Names}
-use Rattle.c_grammar.specs.Sorts.{Name}
-use Rattle.c_grammar.specs.Tests.{Set, is, sign_is, word_is, name_with, is_base, begins_type, links, is_prefix, is_value_role, is_literal, begins_prefixed, begins_suffix, is_field}
+use Rattle.c_grammar.specs.Tests.{sign_is, links, begins_prefixed}
 use Rattle.c_tree.specs.declared.operators.Level.{Level}
 use Rattle.c_tree.specs.declared.operators.Level.TheVariants as level
 use Rattle.c_tree.specs.declared.code.Expr.{Expr}
 use Rattle.c_tree.specs.Make.{link, choice, chained, conditional}
 use Rattle.c_grammar.specs.Trees.{operator_in, with_prefixes}
-use Rattle.c_grammar.specs.Parts.{What, tree_of, Value, Choosing, ChoosingTail, Upto, Links, Operand, Prefixed}
+use Rattle.c_grammar.specs.Parts.{Value, Choosing, ChoosingTail, Upto, Links, Operand}
 use Rattle.c_grammar.specs.Grammar.{form}
-use Rattle.c_grammar.specs.Tables.{tables}
 use Rattle.c_grammar.proofs.Classes.{is_within}
 use Rattle.c_grammar.proofs.Samples.{a_sign}
-use Rattle.c_grammar.proofs.Fitting.{Suits, Suited, suited, done, token, text, where_fits, widen}
+use Rattle.c_grammar.proofs.Fitting.{Suited, suited, done, token, text, where_fits}
 
 pub first_same : (k : Bool) → is_within (either (begins_prefixed k) nothing) (begins_prefixed k) ≡ true
 first_same true = refl

@@ -1,8 +1,8 @@
 -- Items suit the tables.
-use Rattle.std.proofs.Common.{◌≡◌, ℕ, ◌==◌, Bool, true, false, not, ◌||◌, ◌&&◌, refl, List, [], ◌∷◌, codes}
+use Rattle.std.proofs.Common.{◌≡◌, ℕ, Bool, true, false, not, ◌||◌, ◌&&◌, refl, [], ◌∷◌, codes}
 use Rattle.std.specs.List.{list_all}
 use Rattle.std.specs.Str.{bytes_eq}
-use Rattle.predictive_grammar.proofs.Fits.{Nones, never, only, maybe, Among, nothing, either}
+use Rattle.predictive_grammar.proofs.Fits.{never, maybe, nothing}
 use Rattle.predictive_grammar.proofs.Sets.{and_first, or_right}
 use Rattle.c_lexer.specs.declared.token.Constant.TheVariants as constant
 use Rattle.c_lexer.specs.declared.token.TokenKind.TheVariants as k
@@ -16,11 +16,11 @@ use Rattle.c_tree.specs.declared.unit.Item.TheVariants as item
 use Rattle.c_tree.specs.Words.{Of, Header, Token, Word}
 use Rattle.c_tree.specs.Names.{Names, FunctionName, role_of, declared, with_parameters, with_item, is_int}
 use Rattle.c_tree.specs.Types.{is_object, can_be_type}
-use Rattle.c_tree.specs.Items.{has_name, is_include}
+use Rattle.c_tree.specs.Items.{has_name}
 use Rattle.c_tree.specs.Make.{name_at}
 use Rattle.c_grammar.specs.Sorts.{Kind, kind, on, Name, Null, File}
 use Rattle.c_grammar.specs.Tests.{Set, is, sign_is, word_is, name_with, is_base, begins_type, begins_prefixed, is_key_base, goes_on_type, on_line, begins_include, begins_item, is_int_base, is_char_base, is_other_base, is_main, is_any_name, is_name_of, is_include_word, is_tag, begins_low, is_free_name, is_info_or_type}
-use Rattle.c_grammar.specs.Trees.{is_void, type_of, no_stars, behind_first, file_in, named_parameter, unnamed_parameter, two_stars, signature, struct_name}
+use Rattle.c_grammar.specs.Trees.{type_of, no_stars, behind_first, file_in, named_parameter, unnamed_parameter, two_stars, signature, struct_name}
 use Rattle.c_grammar.specs.Parts.{What, tree_of, TypeRest, MemberOf, Members, MoreMembers, Fields, ParameterOf, ParameterEnd, MoreParameters, ParametersOf, IntType, TextsType, TableInside, DeclaredOf, TypedEnd, StaticEnd, InfoEnd, StaticRest, TypedefRest, ItemOf, ItemsOf}
 use Rattle.c_grammar.specs.Grammar.{here, form, int_behind, texts_behind, parameters_behind, declared_end, variable_behind, static_named, table_behind, info_value, info_named, info_behind, static_type, static_const, typed_item}
 use Rattle.c_grammar.specs.Tables.{stop_of}

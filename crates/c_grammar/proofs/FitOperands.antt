@@ -1,24 +1,23 @@
 -- Operands suit the tables.
 use Rattle.std.proofs.Common.{◌≡◌, Bool, true, false, refl, [], ◌∷◌}
-use Rattle.predictive_grammar.proofs.Fits.{Nones, never, only, maybe, Among, nothing, either}
+use Rattle.predictive_grammar.proofs.Fits.{never, maybe, nothing, either}
 use Rattle.c_lexer.specs.declared.token.Keyword.TheVariants as keyword
 use Rattle.c_lexer.specs.declared.token.Sign.TheVariants as sign
-use Rattle.c_tree.specs.Words.{Token, Word}
 use Rattle.c_tree.specs.Names.{Names}
 use Rattle.c_grammar.specs.Sorts.{Name}
-use Rattle.c_grammar.specs.Tests.{Set, is, sign_is, word_is, name_with, is_base, begins_type, links, is_prefix, is_value_role, is_literal, begins_primary, begins_prefixed, begins_suffix, is_field}
+use Rattle.c_grammar.specs.Tests.{is, sign_is, word_is, name_with, begins_type, is_prefix, is_value_role, is_literal, begins_primary, begins_prefixed, begins_suffix, is_field}
 use Rattle.c_tree.specs.declared.code.Expr.{Expr}
 use Rattle.c_tree.specs.Make.{name_at, suffixed, bracketed}
 use Rattle.c_tree.specs.Words as words
 use Rattle.c_tree.specs.Words.{join}
 use Rattle.c_tree.specs.Values.{is_place}
 use Rattle.c_grammar.specs.Trees.{sign_prefix, cast_prefix, one_prefix, name_value, literal, size_of, offset, field_suffix, index_suffix}
-use Rattle.c_grammar.specs.Parts.{What, tree_of, Value, Prefixed, Place, Primary, Unnamed, Suffixes, Arguments, MoreArguments}
+use Rattle.c_grammar.specs.Parts.{What, tree_of, Prefixed, Place, Primary, Unnamed, Suffixes, Arguments, MoreArguments}
 use Rattle.c_grammar.specs.Grammar.{just, form, index_behind, cast_or_operand}
 use Rattle.c_grammar.specs.Tables.{stop_of}
 use Rattle.c_grammar.proofs.Classes.{is_within}
 use Rattle.c_grammar.proofs.Samples.{a_sign, a_word, a_number, a_name, an_unknown, by_unknown}
-use Rattle.c_grammar.proofs.Fitting.{Suits, Suited, suited, done, token, text, choice, where_fits, widen, by_other, taken_by}
+use Rattle.c_grammar.proofs.Fitting.{Suits, Suited, suited, done, token, text, choice, where_fits, widen, by_other}
 
 -- suffixes behind a value that was read
 fit_suffixes_behind : (ns : Names) {r : What} (dot must : Bool) (f : Expr → tree_of r) (a : Expr) → is_within (stop_of r) (stop_of (Suffixes dot must)) ≡ true

@@ -1,28 +1,26 @@
 -- Declarations, statements and blocks suit the tables.
-use Rattle.std.proofs.Common.{◌≡◌, Bool, true, false, ◌||◌, refl, [], ◌∷◌, Option, Some, None, List}
-use Rattle.predictive_grammar.proofs.Fits.{Nones, never, only, maybe, Among, nothing, either}
+use Rattle.std.proofs.Common.{Bool, true, false, ◌||◌, refl, [], ◌∷◌, Option, Some, None, List}
+use Rattle.predictive_grammar.proofs.Fits.{never, maybe, nothing}
 use Rattle.c_lexer.specs.declared.token.Keyword.TheVariants as keyword
 use Rattle.c_lexer.specs.declared.token.Sign.TheVariants as sign
-use Rattle.c_tree.specs.declared.names.CType.{CType}
 use Rattle.c_tree.specs.declared.code.Expr.{Expr}
 use Rattle.c_tree.specs.declared.code.Local.{Local}
 use Rattle.c_tree.specs.declared.code.Suffix.{Suffix}
 use Rattle.c_tree.specs.declared.code.Stmt.{Stmt}
 use Rattle.c_tree.specs.declared.code.Stmt.TheVariants as stmt
 use Rattle.c_tree.specs.declared.code.Block.{Block}
-use Rattle.c_tree.specs.Words.{Token, Word, join}
+use Rattle.c_tree.specs.Words.{Token, join}
 use Rattle.c_tree.specs.Words as words
 use Rattle.c_tree.specs.Names.{Names, Role, TypeName, RowName, VariableName, FunctionName, MemberName, Unknown, role_of, with_local}
 use Rattle.c_tree.specs.Types.{can_be_type}
-use Rattle.c_tree.specs.Make.{name_at, suffixed, bracketed, conditional, block}
+use Rattle.c_tree.specs.Make.{name_at, suffixed, conditional, block}
 use Rattle.c_tree.specs.Values.{is_place}
 use Rattle.c_grammar.specs.Sorts.{Name, Number}
 use Rattle.c_grammar.specs.Tests.{Set, is, sign_is, word_is, name_with, is_base, begins_type, is_prefix, is_callee_role, begins_unnamed, begins_key_type, is_key_base, goes_on_type, goes_on_local, begins_plain, begins_statement, begins_body, goes_on_statement}
-use Rattle.c_grammar.specs.Trees.{is_void, type_of, no_stars, sign_prefix, with_prefixes, one_prefix, name_value, signed, local, value_call, row_call, call_stmt, one_case}
+use Rattle.c_grammar.specs.Trees.{type_of, no_stars, name_value, signed, local, value_call, row_call, call_stmt, one_case}
 use Rattle.c_grammar.specs.Parts.{What, tree_of, KeyType, LocalOf, LocalRest, SignedNumberOf, GotoOf, Cases, BlockOf, Body, Statements, Statement, PlainStmt, NamedStmt, ValueStmt, Assigned, AssignedTail, ElseOf, Suffixes}
-use Rattle.c_grammar.specs.Grammar.{here, just, form, body_behind, statements_behind, body_named, call_behind, row_behind, label_behind, label_or, called_or_value, named_behind, stored_behind, value_behind, assigned_named, cast_behind}
-use Rattle.c_grammar.specs.Tables.{stop_of, goes_on_value, goes_on_choice}
-use Rattle.c_grammar.proofs.Classes.{is_within}
+use Rattle.c_grammar.specs.Grammar.{here, just, form, body_behind, statements_behind, body_named, call_behind, row_behind, label_behind, label_or, called_or_value, named_behind, stored_behind, value_behind, assigned_named}
+use Rattle.c_grammar.specs.Tables.{goes_on_value, goes_on_choice}
 use Rattle.c_grammar.proofs.Samples.{a_sign, a_word, a_number, a_name, an_unknown, by_unknown}
 use Rattle.c_grammar.proofs.Fitting.{Suits, Suited, suited, done, token, text, text_under, choice, where_fits, widen}
 use Rattle.c_grammar.proofs.FitTypes.{fit_rest}

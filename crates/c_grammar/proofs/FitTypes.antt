@@ -1,15 +1,14 @@
 -- Types suit the tables.
 use Rattle.std.proofs.Common.{◌≡◌, Bool, true, false, refl, [], ◌∷◌}
-use Rattle.predictive_grammar.proofs.Fits.{Nones, never, only, maybe, Among, nothing, either}
+use Rattle.predictive_grammar.proofs.Fits.{maybe, nothing}
 use Rattle.c_lexer.specs.declared.token.Keyword.TheVariants as keyword
 use Rattle.c_lexer.specs.declared.token.Sign.TheVariants as sign
 use Rattle.c_tree.specs.Words.{Token, Word}
 use Rattle.c_tree.specs.Names.{Names}
-use Rattle.c_grammar.specs.Sorts.{Name}
-use Rattle.c_grammar.specs.Tests.{Set, is, sign_is, word_is, name_with, is_base, begins_type, goes_on_type, links, is_prefix, is_value_role, is_literal, begins_prefixed, begins_suffix, is_field}
+use Rattle.c_grammar.specs.Tests.{sign_is, word_is, is_base, goes_on_type}
 use Rattle.c_grammar.specs.Trees.{type_of, no_stars, one_star}
 use Rattle.c_grammar.specs.Parts.{What, tree_of, Consts, Stars, TypeRest, TypeMore, AnyType}
-use Rattle.c_grammar.specs.Grammar.{just, base_behind, form}
+use Rattle.c_grammar.specs.Grammar.{just, form}
 use Rattle.c_tree.specs.declared.names.CType.{CType}
 use Rattle.c_grammar.specs.Tables.{stop_of}
 use Rattle.c_grammar.proofs.Classes.{is_within}

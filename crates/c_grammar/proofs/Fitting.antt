@@ -7,10 +7,10 @@ use Rattle.predictive_grammar.proofs.Sets.{or_left, or_right}
 use Rattle.predictive_grammar.proofs.Fits.{Nones, never, only, maybe, Among, Each, each_at, nothing, either, behind, begun, joined}
 use Rattle.c_tree.specs.Words.{Token}
 use Rattle.c_tree.specs.Names.{Names}
-use Rattle.c_grammar.specs.Sorts.{Kind, kind, class, on}
+use Rattle.c_grammar.specs.Sorts.{Kind, kind, on}
 use Rattle.c_grammar.specs.Tests.{Set}
-use Rattle.c_grammar.specs.Parts.{What, Part, tree_of, at}
-use Rattle.c_grammar.specs.Grammar.{C, form, forms}
+use Rattle.c_grammar.specs.Parts.{What, tree_of, at}
+use Rattle.c_grammar.specs.Grammar.{C, form}
 use Rattle.c_grammar.specs.Tables.{tables, first_of, opens_of, none_of, stop_of, rank_of}
 use Rattle.c_grammar.proofs.Classes.{is_within, is_apart, within, apart}
 use Rattle.c_grammar.proofs.Empty.{nones, means}

@@ -1,23 +1,23 @@
 -- The texts of the parts are what the relations of c_tree say, and tokens are one unit at most.
-use Rattle.std.proofs.Common.{◌≡◌, ℕ, Bool, true, false, List, refl, sym, ap, subst, ◌∙◌, true≢false}
+use Rattle.std.proofs.Common.{◌≡◌, ℕ, true, false, List, sym, ap, ◌∙◌, true≢false}
 use Rattle.predictive_grammar.specs.Exact.{IsText}
 use Rattle.predictive_grammar.proofs.Main as main
 use Rattle.c_tree.specs.declared.unit.Item.{Item}
-use Rattle.c_tree.specs.declared.unit.Unit.{Unit as CUnit}
-use Rattle.c_tree.specs.Words.{Token, Word}
+use Rattle.c_tree.specs.Words.{Word}
 use Rattle.c_tree.specs.Names.{Names, library_names}
-use Rattle.c_tree.specs.Items.{ReadsItems, ReadsUnit}
+use Rattle.c_tree.specs.Items.{ReadsItems}
 use Rattle.c_tree.specs.Laws.{OneUnit}
-use Rattle.c_grammar.specs.Parts.{What, Part, tree_of, at, Consts, Stars, TypeRest, TypeMore, AnyType, Value, Choosing, ChoosingTail, Upto, Links, Operand, Prefixed, Place, Primary, Unnamed, Suffixes, Arguments, MoreArguments, KeyType, LocalOf, LocalRest, SignedNumberOf, GotoOf, Cases, BlockOf, Body, Statements, Statement, PlainStmt, NamedStmt, ValueStmt, Assigned, AssignedTail, ElseOf, ItemsOf}
-use Rattle.c_grammar.specs.Grammar.{C, form, forms}
+use Rattle.c_grammar.specs.Parts.{What, tree_of, at, Consts, Stars, TypeRest, TypeMore, AnyType, Value, Choosing, ChoosingTail, Upto, Links, Operand, Prefixed, Place, Primary, Unnamed, Suffixes, Arguments, MoreArguments, KeyType, LocalOf, LocalRest, SignedNumberOf, GotoOf, Cases, BlockOf, Body, Statements, Statement, PlainStmt, NamedStmt, ValueStmt, Assigned, AssignedTail, ElseOf, MemberOf, Members, MoreMembers, Fields, ParameterOf, ParameterEnd, MoreParameters, ParametersOf, IntType, TextsType, TableInside, DeclaredOf, TypedEnd, StaticEnd, InfoEnd, StaticRest, TypedefRest, ItemOf, ItemsOf}
+use Rattle.c_grammar.specs.Grammar.{C, forms}
 use Rattle.c_grammar.specs.Tables.{tables}
-use Rattle.c_grammar.specs.Laws.{ReadsExactly, HasOneTree, TypesAreTold, ValuesAreTold, StatementsAreTold, BlocksAreTold, ItemsAreTexts}
+use Rattle.c_grammar.specs.Laws.{ReadsExactly, HasOneTree, TypesAreTold, ValuesAreTold, StatementsAreTold, BlocksAreTold, ItemsAreTold}
 use Rattle.c_grammar.proofs.Predictive.{predictive}
-use Rattle.c_grammar.proofs.Told.{Closed, sound, Texts}
+use Rattle.c_grammar.proofs.Told.{Closed, sound}
 use Rattle.c_grammar.proofs.Meaning.{Means, Meant, Holds}
 use Rattle.c_grammar.proofs.SoundTypes.{sound_consts, sound_stars, sound_type_rest, sound_type_more, sound_any_type, sound_key_type}
 use Rattle.c_grammar.proofs.SoundValues.{sound_value, sound_choosing, sound_choosing_tail, sound_upto, sound_links, sound_operand, sound_prefixed, sound_place, sound_primary, sound_unnamed, sound_suffixes, sound_arguments, sound_more_arguments}
 use Rattle.c_grammar.proofs.SoundStatements.{sound_local_of, sound_local_rest, sound_signed_number, sound_goto, sound_cases, sound_block, sound_body, sound_statements, sound_statement, sound_plain, sound_named, sound_value_stmt, sound_assigned, sound_assigned_tail, sound_else}
+use Rattle.c_grammar.proofs.SoundItems.{sound_member, sound_members, sound_more_members, sound_fields, sound_parameter, sound_parameter_end, sound_more_parameters, sound_parameters, sound_int_type, sound_texts_type, sound_table_inside, sound_declared, sound_typed_end, sound_static_end, sound_info_end, sound_static_rest, sound_typedef, sound_item, sound_items}
 use Rattle.c_grammar.proofs.FindTypes.{find_type}
 use Rattle.c_grammar.proofs.FindValues.{value_text, find}
 use Rattle.c_grammar.proofs.FindStatements.{find_stmt, find_block, statement_text}
@@ -58,7 +58,25 @@ holds ns (ValueStmt a) = sound_value_stmt ns a
 holds ns (Assigned b) = sound_assigned ns b
 holds ns (AssignedTail b a) = sound_assigned_tail ns b a
 holds ns (ElseOf a b) = sound_else ns a b
-holds ns p = λ w x d. tt
+holds ns MemberOf = sound_member ns
+holds ns Members = sound_members ns
+holds ns MoreMembers = sound_more_members ns
+holds ns Fields = sound_fields ns
+holds ns ParameterOf = sound_parameter ns
+holds ns (ParameterEnd c) = sound_parameter_end ns c
+holds ns MoreParameters = sound_more_parameters ns
+holds ns (ParametersOf main) = sound_parameters ns main
+holds ns IntType = sound_int_type ns
+holds ns TextsType = sound_texts_type ns
+holds ns TableInside = sound_table_inside ns
+holds ns (DeclaredOf b c n from) = sound_declared ns b c n from
+holds ns (TypedEnd c) = sound_typed_end ns c
+holds ns (StaticEnd t c) = sound_static_end ns t c
+holds ns (InfoEnd t k i) = sound_info_end ns t k i
+holds ns (StaticRest t) = sound_static_rest ns t
+holds ns (TypedefRest t) = sound_typedef ns t
+holds ns (ItemOf line) = sound_item ns line
+holds ns (ItemsOf line) = sound_items ns line
 
 closed : Closed Meant
 closed p w a d = holds p.names p.what w a d
@@ -85,13 +103,13 @@ statements_are_told ns l w s = ((λ t. means ns Statement l w s t), (λ d. state
 pub blocks_are_told : BlocksAreTold
 blocks_are_told ns l w b = ((λ t. means ns BlockOf l w b t), (λ d. find_block d l))
 
-pub items_are_texts : ItemsAreTexts
-items_are_texts ns l w is d = find_items false d (λ e. absurd (true≢false (sym e))) l
+pub items_are_told : ItemsAreTold
+items_are_told ns l w is = ((λ t. (means ns (ItemsOf false) l w is t).0), (λ d. find_items false d (λ e. absurd (true≢false (sym e))) l))
 
 -- two texts of items with the same tokens
 one_list : (w : Word) (a b : List Item) → ReadsItems library_names w a → ReadsItems library_names w b → a ≡ b
 one_list w a b d e =
-    let x = items_are_texts library_names 0 w a d in let y = items_are_texts library_names 0 w b e in
+    let x = (items_are_told library_names 0 w a).1 d in let y = (items_are_told library_names 0 w b).1 e in
     has_one_tree (at library_names (ItemsOf false)) 0 x.0 y.0 a b (x.1 ∙ sym y.1) x.2 y.2
 
 pub one_unit : OneUnit

@@ -19,4 +19,6 @@ pub mod FindTypes
 pub mod FindValues
 pub mod FindStatements
 pub mod FindItems
+pub mod SoundItems
 pub mod Joined
+pub mod Readers

@@ -1,7 +1,7 @@
 -- Each part has a text, and one token of lookahead reads the grammar.
 use Rattle.std.proofs.Common.{◌≡◌, ℕ, suc, ◌≤◌, Bool, true, false, refl, [], ◌∷◌, arith, nat_lt, Option, Some, None, codes}
-use Rattle.predictive_grammar.specs.Forms.{Form, give}
-use Rattle.predictive_grammar.specs.Follows.{Word, Follows, given, taken, read, first, second, Reads}
+use Rattle.predictive_grammar.specs.Forms.{Form}
+use Rattle.predictive_grammar.specs.Follows.{Word, given, second, Reads}
 use Rattle.predictive_grammar.specs.Fit.{IsPredictive}
 use Rattle.predictive_grammar.proofs.Ways.{Way, end, by_token, by_text, by_known, one, other, some_text}
 use Rattle.c_lexer.specs.declared.token.Keyword.{Keyword}

@@ -1,13 +1,13 @@
 -- A token of some kinds, among them a name that nothing declares.
-use Rattle.std.proofs.Common.{◌≡◌, ◌≢◌, ℕ, zero, suc, ◌+◌, ◌<◌, ◌≤◌, Bool, true, false, if◌then◌else◌, List, [], ◌∷◌, length, refl, sym, ap, ◌∙◌, arith, true≢false}
+use Rattle.std.proofs.Common.{◌≡◌, ℕ, zero, suc, ◌+◌, ◌<◌, Bool, true, false, if◌then◌else◌, List, [], ◌∷◌, length, refl, ap, ◌∙◌, arith}
 use Rattle.std.specs.Str.{bytes_eq}
 use Rattle.c_lexer.specs.declared.token.TokenKind.TheVariants as k
 use Rattle.c_lexer.specs.declared.token.Keyword.{Keyword}
 use Rattle.c_lexer.specs.declared.token.Sign.{Sign}
 use Rattle.c_lexer.specs.declared.token.NumberType.TheVariants as number_type
 use Rattle.c_tree.specs.Words.{Terminal, Of, Token}
-use Rattle.c_tree.specs.Names.{Names, Declared, Role, Unknown, role_of}
-use Rattle.c_grammar.specs.Sorts.{Kind, kind, Class, Name, class, on}
+use Rattle.c_tree.specs.Names.{Names, Role, Unknown, role_of}
+use Rattle.c_grammar.specs.Sorts.{kind, on}
 use Rattle.c_grammar.specs.Tests.{Set}
 use Rattle.c_grammar.proofs.Classes.{named}
 use Rattle.c_grammar.proofs.Bytes.{same_bytes}

@@ -1,16 +1,13 @@
 -- What forms of statements read, are statements.
 use Rattle.std.proofs.Common.{◌≡◌, ℕ, Bool, true, false, not, ◌&&◌, ◌==◌, List, [], ◌∷◌, ◌++◌, Option, Some, None, refl, sym, ap, subst, ◌∙◌, append-nil, append_assoc, true≢false}
 use Rattle.c_lexer.specs.declared.token.Constant.TheVariants as constant
-use Rattle.c_lexer.specs.declared.token.NumberType.{NumberType}
 use Rattle.c_lexer.specs.declared.token.TokenKind.TheVariants as k
 use Rattle.c_lexer.specs.declared.token.Keyword.TheVariants as keyword
 use Rattle.c_lexer.specs.declared.token.Sign.TheVariants as sign
 use Rattle.c_tree.specs.declared.names.Base.{Base}
 use Rattle.c_tree.specs.declared.names.Base.TheVariants as base
 use Rattle.c_tree.specs.declared.names.CType.{CType}
-use Rattle.c_tree.specs.declared.names.SignedNumber.{SignedNumber}
 use Rattle.c_tree.specs.declared.operators.Level.TheVariants as level
-use Rattle.c_tree.specs.declared.operators.PrefixOperator.{PrefixOperator}
 use Rattle.c_tree.specs.declared.code.Expr.{Expr}
 use Rattle.c_tree.specs.declared.code.Suffix.{Suffix}
 use Rattle.c_tree.specs.declared.code.Local.{Local}
@@ -23,20 +20,19 @@ use Rattle.c_tree.specs.Words.{Terminal, Of, Token, Word, IsSign, IsWord, IsName
 use Rattle.c_tree.specs.Words as words
 use Rattle.c_tree.specs.Names.{Names, Role, TypeName, RowName, VariableName, FunctionName, MemberName, Unknown, role_of, with_local}
 use Rattle.c_tree.specs.Types.{ReadsType, type_is, BaseIs, named_is, no_const, no_star, is_object, is_void_base, can_be_type}
-use Rattle.c_tree.specs.Make.{name_at, suffixed, bracketed, conditional, block}
+use Rattle.c_tree.specs.Make.{name_at, suffixed, conditional, block}
 use Rattle.c_tree.specs.Values as v
 use Rattle.c_tree.specs.Values.{Reads, is_place, value, tightest, no_prefix, more_prefixes, postfixed, brackets, cast}
-use Rattle.c_tree.specs.Statements.{ReadsLocal, local_is, ReadsLocals, no_local, more_locals, ReadsNumber, number_is, negative_is, ReadsCall, call_value, call_row, call_type_row, ReadsPlace, place_is, ReadsGoto, goto_is, ReadsCases, no_case, more_cases, ReadsStmt, assigns, calls, stores, if_block, if_else, if_goto, goes, labels, switches, returns, returns_value, blocks, ReadsStmts, no_stmt, more_stmts, ReadsBlock, block_is}
+use Rattle.c_tree.specs.Statements.{ReadsLocal, local_is, no_local, more_locals, ReadsNumber, number_is, negative_is, ReadsCall, call_value, call_row, call_type_row, ReadsPlace, place_is, goto_is, no_case, more_cases, ReadsStmt, assigns, calls, stores, if_block, if_else, if_goto, goes, labels, switches, returns, returns_value, blocks, ReadsStmts, no_stmt, more_stmts, ReadsBlock, block_is}
 use Rattle.c_grammar.specs.Sorts.{kind, on, Name, Number, same, sort_of}
 use Rattle.c_grammar.specs.Tests.{is, is_callee_role, is_value_role}
-use Rattle.c_grammar.specs.Trees.{is_some_word, is_void, base_in, base_of, type_of, no_stars, sign_prefix, cast_prefix, with_prefixes, one_prefix, name_value, signed, number_in, local, value_call, row_call, call_stmt, one_case}
-use Rattle.c_grammar.specs.Parts.{What, tree_of, at, KeyType, LocalOf, LocalRest, SignedNumberOf, GotoOf, Cases, BlockOf, Body, Statements, Statement, PlainStmt, NamedStmt, ValueStmt, Assigned, AssignedTail, ElseOf, Suffixes}
-use Rattle.c_grammar.specs.Grammar.{form, body_behind, statements_behind, body_named, call_behind, row_behind, label_behind, label_or, named_behind, stored_behind, value_behind, assigned_named, called_or_value, cast_behind, just}
+use Rattle.c_grammar.specs.Trees.{base_in, base_of, type_of, no_stars, sign_prefix, cast_prefix, with_prefixes, one_prefix, name_value, number_in, local, value_call, row_call, call_stmt}
+use Rattle.c_grammar.specs.Parts.{What, tree_of, at, LocalOf, LocalRest, SignedNumberOf, GotoOf, Cases, BlockOf, Body, Statements, Statement, PlainStmt, NamedStmt, ValueStmt, Assigned, AssignedTail, ElseOf}
+use Rattle.c_grammar.specs.Grammar.{form, body_behind, statements_behind, body_named, call_behind, row_behind, label_behind, label_or, named_behind, stored_behind, value_behind, assigned_named, called_or_value, just}
 use Rattle.c_grammar.proofs.Told.{Told, gave, took, got, one, other}
-use Rattle.c_grammar.proofs.Tokens.{is_sign, is_word, is_name, is_name_with, with_terminal}
-use Rattle.c_grammar.proofs.Meaning.{Means, Meant, Holds, IfMust, AreCases, IsBody, IsType, EndsType, starts_well, is_some}
-use Rattle.c_grammar.proofs.SoundTypes.{ends_type}
-use Rattle.c_grammar.proofs.SoundValues.{at_word, then_nothing, by_name, address, star, is_star, prefix_told, may_follow_told}
+use Rattle.c_grammar.proofs.Tokens.{is_sign, is_word, is_name, is_name_with}
+use Rattle.c_grammar.proofs.Meaning.{Meant, Holds, AreCases, IsBody, IsType}
+use Rattle.c_grammar.proofs.SoundValues.{by_name, address, star, is_star, prefix_told, may_follow_told}
 
 -- 1. Declarations
 

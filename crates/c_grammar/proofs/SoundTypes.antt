@@ -1,22 +1,22 @@
 -- What forms of types read, are types.
-use Rattle.std.proofs.Common.{◌≡◌, ℕ, suc, ◌==◌, eqb-true, arith, Bool, true, false, not, ◌&&◌, ◌||◌, List, [], ◌∷◌, ◌++◌, refl, sym, ap, subst, ◌∙◌, append-nil, append_assoc, true≢false}
+use Rattle.std.proofs.Common.{◌≡◌, ℕ, suc, ◌==◌, eqb-true, arith, Bool, true, false, not, ◌&&◌, List, [], ◌∷◌, ◌++◌, refl, sym, ap, subst, ◌∙◌, append-nil, append_assoc, true≢false}
 use Rattle.c_lexer.specs.declared.token.Constant.TheVariants as constant
 use Rattle.c_lexer.specs.declared.token.TokenKind.TheVariants as k
 use Rattle.c_lexer.specs.declared.token.Keyword.TheVariants as keyword
 use Rattle.c_lexer.specs.declared.token.Sign.TheVariants as sign
 use Rattle.c_tree.specs.declared.names.CType.{CType}
-use Rattle.c_tree.specs.Words.{Terminal, Of, Token, Word, extent}
-use Rattle.c_tree.specs.Names.{Names, role_of}
-use Rattle.c_tree.specs.Types.{Consts as ReadsConsts, no_const, more_const, Stars as ReadsStars, no_star, more_stars, BaseIs, void_is, int_is, char_is, named_is, ReadsType, type_is, is_object, is_void_base, can_be_type}
+use Rattle.c_tree.specs.Words.{Terminal, Of, Token, Word}
+use Rattle.c_tree.specs.Names.{Names}
+use Rattle.c_tree.specs.Types.{Consts as ReadsConsts, no_const, more_const, Stars as ReadsStars, no_star, more_stars, BaseIs, void_is, int_is, char_is, named_is, ReadsType, type_is, is_object, is_void_base}
 use Rattle.c_grammar.specs.Sorts.{kind, on}
 use Rattle.c_grammar.specs.Tests.{is_base, is_key_base, word_is}
-use Rattle.c_grammar.specs.Trees.{is_some_word, base_of, base_in, is_void, type_of, no_stars, one_star}
-use Rattle.c_grammar.specs.Parts.{What, Starred, tree_of, at, Consts, Stars, TypeRest, TypeMore, AnyType, KeyType}
+use Rattle.c_grammar.specs.Trees.{is_some_word, base_of, is_void, type_of}
+use Rattle.c_grammar.specs.Parts.{Starred, at, Consts, Stars, TypeRest, TypeMore, AnyType, KeyType}
 use Rattle.c_grammar.specs.Grammar.{form, base_behind}
 use Rattle.c_grammar.proofs.Told.{Told, gave, took, got, one, other}
-use Rattle.c_grammar.proofs.Tokens.{is_sign, is_word, with_terminal}
+use Rattle.c_grammar.proofs.Tokens.{is_sign, is_word}
 use Rattle.c_grammar.proofs.Classes.{within}
-use Rattle.c_grammar.proofs.Meaning.{Means, Meant, Holds, AreConsts, AreStars, EndsType, IsType, IfMust}
+use Rattle.c_grammar.proofs.Meaning.{Meant, Holds, AreConsts, AreStars, EndsType, IsType, IfMust}
 
 pub sound_consts : (ns : Names) → Holds ns Consts
 unfolding form

@@ -1,5 +1,5 @@
 -- What forms of values read, are values.
-use Rattle.std.proofs.Common.{◌≡◌, ℕ, ◌==◌, Bool, true, false, not, ◌&&◌, ◌||◌, List, [], ◌∷◌, ◌++◌, Option, Some, None, refl, sym, ap, subst, ◌∙◌, append-nil, append_assoc, true≢false, eqb-true}
+use Rattle.std.proofs.Common.{◌≡◌, ℕ, ◌==◌, Bool, true, false, not, ◌&&◌, ◌||◌, List, [], ◌∷◌, ◌++◌, Option, Some, None, refl, sym, ap, subst, ◌∙◌, append-nil, append_assoc, true≢false}
 use Rattle.c_lexer.specs.declared.token.Constant.TheVariants as constant
 use Rattle.c_lexer.specs.declared.token.TokenKind.TheVariants as k
 use Rattle.c_lexer.specs.declared.token.Keyword.TheVariants as keyword
@@ -8,12 +8,9 @@ use Rattle.c_lexer.specs.declared.token.Sign.TheVariants as sign
 use Rattle.c_tree.specs.declared.operators.BinaryOperator.{BinaryOperator}
 use Rattle.c_tree.specs.declared.operators.Level.{Level}
 use Rattle.c_tree.specs.declared.operators.Level.TheVariants as level
-use Rattle.c_tree.specs.declared.operators.Prefix.{Prefix}
-use Rattle.c_tree.specs.declared.operators.Prefix.TheVariants as prefix
 use Rattle.c_tree.specs.declared.operators.PrefixOperator.{PrefixOperator}
 use Rattle.c_tree.specs.declared.code.Expr.{Expr}
 use Rattle.c_tree.specs.declared.code.Shape as shapes
-use Rattle.c_tree.specs.declared.code.Link.{Link}
 use Rattle.c_tree.specs.declared.code.Suffix.{Suffix, out-Suffix}
 use Rattle.c_tree.specs.declared.code.Suffix as suffixes
 use Rattle.c_tree.specs.Words.{Terminal, Of, Token, Word, IsSign, IsName, join}
@@ -21,14 +18,14 @@ use Rattle.c_tree.specs.Words.{at as at_token}
 use Rattle.c_tree.specs.Words as words
 use Rattle.c_tree.specs.Kinds.{level_of}
 use Rattle.c_tree.specs.Names.{Names, role_of, Role, TypeName, RowName, VariableName, FunctionName, MemberName, Unknown}
-use Rattle.c_tree.specs.Make.{name_at, expr, bracketed, suffixed, prefixed, link, chained}
+use Rattle.c_tree.specs.Make.{name_at, expr, bracketed, suffixed, chained}
 use Rattle.c_tree.specs.Values as v
 use Rattle.c_tree.specs.Values.{Reads, binary_of, prefix_of, tighter, is_place, is_deref, is_dot_layer, may_follow, may_precede, is_variable, value, last_choice, more_choices, chain, no_link, more_links, operand, tightest, no_prefix, more_prefixes, cast, postfixed, no_suffix, field, arrow, index, number, character, text, constant_name, variable, function, member, size_of, offset, brackets, no_argument, arguments, no_more, more_arguments}
 use Rattle.c_grammar.specs.Sorts.{kind, on, OfSign, sign_number}
-use Rattle.c_grammar.specs.Tests.{links, is_of_level, level_number, is_prefix, is_value_role, is_literal, is_field, sign_is, sign_with, is_there, name_with}
-use Rattle.c_grammar.specs.Trees.{known_operator, known_prefix, operator_in, prefix_in, sign_prefix, cast_prefix, with_prefixes, one_prefix, name_shape, name_value, literal, field_suffix, index_suffix}
+use Rattle.c_grammar.specs.Tests.{links, is_of_level, level_number, is_prefix, is_value_role, is_literal, is_field, sign_is, sign_with, is_there}
+use Rattle.c_grammar.specs.Trees.{known_operator, operator_in, prefix_in, sign_prefix, with_prefixes, one_prefix, name_shape, literal, field_suffix}
 use Rattle.c_grammar.specs.Parts.{What, tree_of, at, Value, Choosing, ChoosingTail, Upto, Links, Operand, Prefixed, Place, Primary, Unnamed, Suffixes, Arguments, MoreArguments}
-use Rattle.c_grammar.specs.Grammar.{form, upto_behind, tail_behind, just, cast_or_operand, suffixes_behind, place_behind, bracket_end, index_behind}
+use Rattle.c_grammar.specs.Grammar.{form, upto_behind, tail_behind, just, cast_or_operand, suffixes_behind, place_behind, index_behind}
 use Rattle.c_grammar.proofs.Classes.{item_at, by_number}
 use Rattle.c_grammar.proofs.Told.{Told, gave, took, got, one, other}
 use Rattle.c_grammar.proofs.Tokens.{is_sign, is_word, is_name, is_name_with, with_terminal}

@@ -1,15 +1,13 @@
 -- What a test says of a token, and the other way round.
-use Rattle.std.proofs.Common.{◌≡◌, ℕ, ◌==◌, Bool, true, false, ◌&&◌, ◌||◌, not, List, Option, Some, None, refl, sym, ap, ◌∙◌, subst, true≢false, eqb-true, eq-eqb}
+use Rattle.std.proofs.Common.{◌≡◌, ◌==◌, Bool, true, false, refl, sym, ap, ◌∙◌, true≢false, eq-eqb}
 use Rattle.c_lexer.specs.declared.token.Constant.{Constant}
 use Rattle.c_lexer.specs.declared.token.Constant.TheVariants as constant
 use Rattle.c_lexer.specs.declared.token.TokenKind.TheVariants as k
 use Rattle.c_lexer.specs.declared.token.Keyword.{Keyword}
-use Rattle.c_lexer.specs.declared.token.Keyword.TheVariants as keyword
 use Rattle.c_lexer.specs.declared.token.Sign.{Sign}
-use Rattle.c_lexer.specs.declared.token.Sign.TheVariants as sign
-use Rattle.c_tree.specs.Words.{Terminal, Of, Header, Token, IsSign, IsWord, IsName}
+use Rattle.c_tree.specs.Words.{Terminal, Of, Token, IsSign, IsWord, IsName}
 use Rattle.c_tree.specs.Names.{Names, Role, role_of}
-use Rattle.c_grammar.specs.Sorts.{Kind, kind, Name, OfSign, OfWord, sort_of, same, class, on, sign_number, word_number}
+use Rattle.c_grammar.specs.Sorts.{Kind, kind, Name, OfSign, OfWord, sort_of, same, on, sign_number, word_number}
 use Rattle.c_grammar.specs.Tests.{Set, is, sign_is, word_is, name_with}
 use Rattle.c_grammar.proofs.Classes.{same_sign, same_word}
 
@@ -21,7 +19,7 @@ with_terminal t x = record { terminal = x; bytes = t.bytes; begins_line = t.begi
 pub passes : (ns : Names) (test : Set) (t : Token) {x : Terminal} → t.terminal ≡ x → on ns test (with_terminal t x) ≡ true → on ns test (kind t) ≡ true
 passes ns test t e h = ap (λ (x : Terminal). on ns test (with_terminal t x)) e ∙ h
 
-sign_told : (x : Terminal) (s : Sign) → same (OfSign s) (sort_of x) ≡ true → x ≡ Of (k.Sign s)
+pub sign_told : (x : Terminal) (s : Sign) → same (OfSign s) (sort_of x) ≡ true → x ≡ Of (k.Sign s)
 sign_told (Of (k.Sign r)) s e = ap (λ (r : Sign). Of (k.Sign r)) (sym (same_sign s r e))
 sign_told (Of (k.Constant constant.Null)) s e = absurd (true≢false (sym e))
 sign_told _ s e = absurd (true≢false (sym e))

@@ -1,7 +1,7 @@
 -- Forms read over tokens alone, by what is said of the parts in them: texts are what every such reading makes of them, and the other way round.
 use Rattle.std.proofs.Common.{◌≡◌, ℕ, Bool, true, [], ◌∷◌, ◌++◌, None, refl, sym, ap, subst, ◌∙◌, append-nil}
-use Rattle.predictive_grammar.specs.Forms.{Form, give, take, part, pick, bar}
-use Rattle.predictive_grammar.specs.Follows.{Follows, given, taken, read, first, second, kept, left_out, raw, Reads}
+use Rattle.predictive_grammar.specs.Forms.{Form, give, take, part, pick}
+use Rattle.predictive_grammar.specs.Follows.{Follows, given, taken, read, first, second, kept, left_out, raw}
 use Rattle.predictive_grammar.specs.Follows as letters
 use Rattle.predictive_grammar.specs.Exact.{IsText}
 use Rattle.predictive_grammar.proofs.Words.{raw-append}

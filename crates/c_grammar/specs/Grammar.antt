@@ -3,7 +3,6 @@ use Rattle.std.specs.Prelude.{ℕ, suc, not, Bool, true, false, ◌&&◌, List, 
 use Rattle.std.specs.List.{list_all}
 use Rattle.std.specs.Str.{bytes_eq}
 use Rattle.predictive_grammar.specs.Forms.{Signature, Form, give, take, part, pick, Productions}
-use Rattle.c_lexer.specs.declared.token.Keyword.{Keyword}
 use Rattle.c_lexer.specs.declared.token.Keyword.TheVariants as keyword
 use Rattle.c_lexer.specs.declared.token.Sign.{Sign}
 use Rattle.c_lexer.specs.declared.token.Sign.TheVariants as sign
@@ -27,7 +26,7 @@ use Rattle.c_tree.specs.Items.{has_name, is_include}
 use Rattle.c_tree.specs.Values.{is_place, tighter}
 use Rattle.c_tree.specs.Make.{name_at, bracketed, link, choice, chained, suffixed, conditional, block}
 use Rattle.c_grammar.specs.Sorts.{Kind, kind, Name, Number, Null, File, on}
-use Rattle.c_grammar.specs.Tests.{Set, is, sign_is, word_is, name_with, is_base, begins_type, links, is_prefix, is_value_role, is_literal, begins_primary, begins_unnamed, begins_prefixed, is_field, is_callee_role, begins_key_type, is_key_base, goes_on_type, goes_on_local, begins_plain, begins_statement, on_line, begins_include, begins_item, is_int_base, is_char_base, is_other_base, is_main, is_name_of, is_include_word, is_tag, is_free_name, is_info_or_type}
+use Rattle.c_grammar.specs.Tests.{Set, is, sign_is, word_is, name_with, is_base, begins_type, links, is_prefix, is_value_role, is_literal, begins_unnamed, begins_prefixed, is_field, is_callee_role, begins_key_type, is_key_base, goes_on_type, goes_on_local, begins_plain, begins_statement, on_line, begins_include, begins_item, is_int_base, is_char_base, is_other_base, is_main, is_name_of, is_include_word, is_tag, is_free_name, is_info_or_type}
 use Rattle.c_grammar.specs.Trees.{is_void, type_of, no_stars, one_star, operator_in, sign_prefix, cast_prefix, with_prefixes, one_prefix, name_value, literal, size_of, offset, field_suffix, index_suffix, signed, local, value_call, row_call, call_stmt, one_case, behind_first, file_in, named_parameter, unnamed_parameter, two_stars, signature, struct_name}
 use Rattle.c_grammar.specs.Parts.{What, Part, tree_of, at, Consts, Stars, TypeRest, TypeMore, AnyType, Value, Choosing, ChoosingTail, Upto, Links, Operand, Prefixed, Place, Primary, Unnamed, Suffixes, Arguments, MoreArguments, KeyType, LocalOf, LocalRest, SignedNumberOf, GotoOf, Cases, BlockOf, Body, Statements, Statement, PlainStmt, NamedStmt, ValueStmt, Assigned, AssignedTail, ElseOf, MemberOf, Members, MoreMembers, Fields, ParameterOf, ParameterEnd, MoreParameters, ParametersOf, IntType, TextsType, TableInside, DeclaredOf, TypedEnd, StaticEnd, InfoEnd, StaticRest, TypedefRest, ItemOf, ItemsOf}
 

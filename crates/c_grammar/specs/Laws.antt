@@ -1,16 +1,16 @@
 -- What the laws of the grammar speak of.
-use Rattle.std.specs.Prelude.{◌≡◌, ℕ, Bool, true, false, List, None, ◌↔◌}
+use Rattle.std.specs.Prelude.{◌≡◌, ℕ, Bool, true, false, List, None, ◌↔◌, []}
 use Rattle.predictive_grammar.specs.Follows.{raw, Reads}
 use Rattle.predictive_grammar.specs.Follows as letters
 use Rattle.predictive_grammar.specs.Steps.{Limits, Parser}
 use Rattle.predictive_grammar.specs.Reading.{reader}
-use Rattle.predictive_grammar.specs.Exact.{IsText, Answers}
+use Rattle.predictive_grammar.specs.Exact.{IsText, IsWithin, Answers}
 use Rattle.c_tree.specs.declared.names.CType.{CType}
 use Rattle.c_tree.specs.declared.code.Expr.{Expr}
 use Rattle.c_tree.specs.declared.code.Stmt.{Stmt}
 use Rattle.c_tree.specs.declared.code.Block.{Block}
 use Rattle.c_tree.specs.declared.unit.Item.{Item}
-use Rattle.c_tree.specs.Words.{Token, Word}
+use Rattle.c_tree.specs.Words.{Token, Word, is_shallow}
 use Rattle.c_tree.specs.Names.{Names}
 use Rattle.c_tree.specs.Types.{ReadsType, is_object}
 use Rattle.c_tree.specs.Values as v
@@ -52,6 +52,14 @@ StatementsAreTold = (ns : Names) (level : ℕ) (w : Word) (s : Stmt) → Told ns
 abbrev pub BlocksAreTold : Type 0
 BlocksAreTold = (ns : Names) (level : ℕ) (w : Word) (b : Block) → Told ns level BlockOf w b ↔ ReadsBlock ns w b
 
--- What c_tree says are items, is a text of items with the same trees.
-abbrev pub ItemsAreTexts : Type 0
-ItemsAreTexts = (ns : Names) (level : ℕ) (w : Word) (is : List Item) → ReadsItems ns w is → Told ns level (ItemsOf false) w is
+-- the same of items
+abbrev pub ItemsAreTold : Type 0
+ItemsAreTold = (ns : Names) (level : ℕ) (w : Word) (is : List Item) → Told ns level (ItemsOf false) w is ↔ ReadsItems ns w is
+
+-- no level of a letter is over 64, and no letter begins a further item of a list
+abbrev pub c_limits : Limits
+c_limits = record { levels = 65; items = 1 }
+
+-- The levels of a text of items are within the limits exactly where no more than 64 brackets are open anywhere.
+abbrev pub LevelsAreCounted : Type 0
+LevelsAreCounted = (ns : Names) (w : letters.Word C) (is : List Item) → Reads C forms None (at ns (ItemsOf false)) 0 w is → IsWithin c_limits w ↔ (is_shallow [] (raw w) ≡ true)

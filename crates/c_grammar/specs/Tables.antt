@@ -1,12 +1,12 @@
 -- What is said of the parts, for reading them by one token of lookahead.
-use Rattle.std.specs.Prelude.{◌≡◌, ℕ, suc, not, Bool, true, false, ◌&&◌, ◌||◌, List, [], ◌∷◌, Option, Some, None}
+use Rattle.std.specs.Prelude.{◌≡◌, ℕ, suc, not, true, false, ◌&&◌, ◌||◌, [], None}
 use Rattle.predictive_grammar.specs.Fit.{Tables}
 use Rattle.c_lexer.specs.declared.token.Keyword.TheVariants as keyword
 use Rattle.c_lexer.specs.declared.token.Sign.TheVariants as sign
 use Rattle.c_tree.specs.declared.operators.Level.{Level}
 use Rattle.c_tree.specs.declared.operators.Level.TheVariants as level
 use Rattle.c_tree.specs.declared.code.Stmt.TheVariants as stmt
-use Rattle.c_grammar.specs.Sorts.{Kind, Name, Number, on}
+use Rattle.c_grammar.specs.Sorts.{Name, Number, on}
 use Rattle.c_grammar.specs.Tests.{Set, is, sign_is, word_is, begins_type, goes_on_type, goes_on_local, begins_key_type, begins_plain, begins_statement, begins_body, goes_on_statement, begins_assigned, begins_item, is_int_base, is_char_base, links, links_up_to, level_number, begins_primary, begins_unnamed, begins_prefixed, begins_place, begins_suffix}
 use Rattle.c_grammar.specs.Trees.{type_of, no_stars, unnamed_parameter}
 use Rattle.c_grammar.specs.Parts.{What, Part, tree_of, Consts, Stars, TypeRest, TypeMore, AnyType, Value, Choosing, ChoosingTail, Upto, Links, Operand, Prefixed, Place, Primary, Unnamed, Suffixes, Arguments, MoreArguments, KeyType, LocalOf, LocalRest, SignedNumberOf, GotoOf, Cases, BlockOf, Body, Statements, Statement, PlainStmt, NamedStmt, ValueStmt, Assigned, AssignedTail, ElseOf, MemberOf, Members, MoreMembers, Fields, ParameterOf, ParameterEnd, MoreParameters, ParametersOf, IntType, TextsType, TableInside, DeclaredOf, TypedEnd, StaticEnd, InfoEnd, StaticRest, TypedefRest, ItemOf, ItemsOf}

@@ -8,13 +8,11 @@ use Rattle.c_lexer.specs.declared.token.Sign.TheVariants as sign
 use Rattle.c_tree.specs.declared.operators.BinaryOperator.{BinaryOperator}
 use Rattle.c_tree.specs.declared.operators.Level.{Level}
 use Rattle.c_tree.specs.declared.operators.Level.TheVariants as level
-use Rattle.c_tree.specs.declared.operators.Prefix.{Prefix}
 use Rattle.c_tree.specs.Kinds.{level_of}
-use Rattle.c_tree.specs.Names.{Names, Role, TypeName, RowName, FunctionName, MemberName, AnInt, AChar, meaning_of_role, is_an_int, is_a_char, is_int}
-use Rattle.c_tree.specs.declared.names.CType.{CType}
-use Rattle.c_tree.specs.Types.{can_be_type, is_object}
+use Rattle.c_tree.specs.Names.{Names, Role, RowName, FunctionName, MemberName, meaning_of_role, is_an_int, is_a_char}
+use Rattle.c_tree.specs.Types.{can_be_type}
 use Rattle.c_tree.specs.Values.{binary_of, prefix_of, is_variable}
-use Rattle.c_grammar.specs.Sorts.{Sort, Kind, on, Name, Number, Character, Text, Null, Capital, OfSign, OfWord, File, Class, same}
+use Rattle.c_grammar.specs.Sorts.{Sort, Kind, on, Name, Number, Character, Text, Null, Capital, OfSign, OfWord, Class, same}
 
 -- a set of classes
 abbrev pub Set : Type 0

@@ -1,5 +1,5 @@
 -- Trees from the tokens that stand in a text.
-use Rattle.std.specs.Prelude.{◌≡◌, ℕ, suc, not, ◌&&◌, ◌||◌, Bool, true, false, List, [], ◌∷◌, ◌++◌, Option, Some, None}
+use Rattle.std.specs.Prelude.{ℕ, suc, ◌||◌, Bool, true, false, List, [], ◌∷◌, ◌++◌, Option, Some, None}
 use Rattle.c_lexer.specs.declared.token.TokenKind.TheVariants as k
 use Rattle.c_lexer.specs.declared.token.Keyword.TheVariants as keyword
 use Rattle.c_lexer.specs.declared.token.Sign.TheVariants as sign

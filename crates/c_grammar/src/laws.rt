@@ -1,6 +1,6 @@
 // The laws of the grammar. The bodies do nothing: the clauses are theorems.
 
-ghost use Rattle.c_grammar.specs.Laws.{BlocksAreTold, HasOneTree, ItemsAreTexts, ReadsExactly, StatementsAreTold, TypesAreTold, ValuesAreTold};
+ghost use Rattle.c_grammar.specs.Laws.{BlocksAreTold, HasOneTree, ItemsAreTold, ReadsExactly, StatementsAreTold, TypesAreTold, ValuesAreTold};
 ghost use Rattle.c_tree.specs.Laws.{OneUnit};
 
 /// The reader of each part answers what the grammar says: the tree as far as a text goes, or the first fault.
@@ -25,9 +25,9 @@ pub fn statements_are_told()
     ensures blocks { BlocksAreTold }
 {}
 
-/// What c_tree says are items, is a text of items with the same trees.
-pub fn items_are_texts()
-    ensures { ItemsAreTexts }
+/// The same of items.
+pub fn items_are_told()
+    ensures { ItemsAreTold }
 {}
 
 /// Tokens are one unit at most.
