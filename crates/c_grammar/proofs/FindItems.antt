@@ -620,7 +620,7 @@ find_item ns line (function_type {t = t} o s n c e {u = u} {w = w} {r = r} {ps =
     text_at {q = ItemOf line} (sym (append_assoc (t ∷ u) (o ∷ s ∷ n ∷ c ∷ w) (e ∷ [])))
     (subst (λ (y : Item). Texts (at ns (ItemOf line)) (t ∷ (u ++ (o ∷ s ∷ n ∷ c ∷ (w ++ (e ∷ []))))) y)
     (function_type_tree n t o s c u w r ps f.closes.end (ap (λ (z : Word). end_of 0 ((t ∷ u) ++ (o ∷ s ∷ n ∷ c ∷ z))) f.same ∙ ap (end_of 0) (sym (append_assoc (t ∷ u) (o ∷ s ∷ n ∷ c ∷ f.opens ∷ f.inside) (f.closes ∷ [])))
-        ∙ end_is 0 ((t ∷ u) ++ (o ∷ s ∷ n ∷ c ∷ f.opens ∷ f.inside)) f.closes))
+    ∙ end_is 0 ((t ∷ u) ++ (o ∷ s ∷ n ∷ c ∷ f.opens ∷ f.inside)) f.closes))
     (typedef_item ns line t i l (function_type_text ns t o s n c e d j h y m f p)))
 find_item ns line (prototype e {s = s} d i) l = signature_item ns line (e ∷ []) (item.Prototype s) (find_signature ns d) l (λ r g. prototype_told ns (list_all has_name s.parameters) s g e i)
 find_item ns line (static_variable {t = t} n a e {u = u} {w = w} i d o j b y m) l =

@@ -40,8 +40,8 @@ unfolding form
 fit_choosing_tail ns k a = suited ns (ChoosingTail k a)
     (text ns refl
     (λ t. where_fits ns (sign_is sign.Question) (a_sign sign.Question) refl
-        (λ q. text ns refl (λ b. token ns (sign_is sign.Colon) (a_sign sign.Colon) refl (λ s. text ns refl (λ r. done ns (choice t b ∷ r.0, r.1)) (λ r. refl) (λ r. refl))) (λ b. refl) (λ b. tt))
-        (done ns ([], t)) refl refl)
+    (λ q. text ns refl (λ b. token ns (sign_is sign.Colon) (a_sign sign.Colon) refl (λ s. text ns refl (λ r. done ns (choice t b ∷ r.0, r.1)) (λ r. refl) (λ r. refl))) (λ b. refl) (λ b. tt))
+    (done ns ([], t)) refl refl)
     (λ t. refl) (λ t. refl)) refl (λ b e. e) refl
 
 pub fit_upto : (ns : Names) (l : Level) (k : Bool) (a : Expr) → Suited ns (Upto l k a)

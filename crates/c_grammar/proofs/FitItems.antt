@@ -162,9 +162,9 @@ pub fit_table_inside : (ns : Names) → Suited ns TableInside
 unfolding form
 fit_table_inside ns = suited ns TableInside
     (token ns (sign_is sign.OpenParen) (a_sign sign.OpenParen) refl (λ p. token_raw ns (is_name_of (codes "GInterfaceInitFunc")) (is Name) (a_name_of (codes "GInterfaceInitFunc")) refl
-        (any_name ns (λ x. bytes_eq x.bytes (codes "GInterfaceInitFunc"))) (λ y. token ns (sign_is sign.CloseParen) (a_sign sign.CloseParen) refl (λ q. token ns (is Name) a_name refl (λ f.
-        token ns (sign_is sign.Comma) (a_sign sign.Comma) refl (λ d. token ns (is Null) (a_token (Of (k.Constant constant.Null))) refl (λ x. token ns (sign_is sign.Comma) (a_sign sign.Comma) refl
-        (λ m. token ns (is Null) (a_token (Of (k.Constant constant.Null))) refl (λ z. done ns f))))))))) refl (λ a e. e) refl
+    (any_name ns (λ x. bytes_eq x.bytes (codes "GInterfaceInitFunc"))) (λ y. token ns (sign_is sign.CloseParen) (a_sign sign.CloseParen) refl (λ q. token ns (is Name) a_name refl (λ f.
+    token ns (sign_is sign.Comma) (a_sign sign.Comma) refl (λ d. token ns (is Null) (a_token (Of (k.Constant constant.Null))) refl (λ x. token ns (sign_is sign.Comma) (a_sign sign.Comma) refl
+    (λ m. token ns (is Null) (a_token (Of (k.Constant constant.Null))) refl (λ z. done ns f))))))))) refl (λ a e. e) refl
 
 fit_table : (ns : Names) {w : What} (n : Token) (f : Item → tree_of w) {moved : Bool} → Suits ns w moved (sign_is sign.OpenBrace) never (sign_is sign.OpenBrace) (table_behind ns n f)
 fit_table ns n f = token ns (sign_is sign.OpenBrace) (a_sign sign.OpenBrace) refl (λ l. text ns refl (λ g. token ns (sign_is sign.CloseBrace) (a_sign sign.CloseBrace) refl (λ r.
@@ -215,8 +215,8 @@ unfolding form
 fit_static_rest ns t = suited ns (StaticRest t)
     (where_fits ns (word_is keyword.Const) (a_word keyword.Const) refl
     (λ k. where_raw ns (is_info_or_type ns) (is Name) (an_unknown ns) (info_or_type_unknown ns) (info_name ns) (λ i. fit_static_const ns t k i (bytes_eq i.bytes (codes "GInterfaceInfo")))
-        (where_fits ns (word_is keyword.Const) (a_word keyword.Const) refl (λ x. text ns refl (λ u. token ns (is_base true) (a_word keyword.Int) refl (λ b. fit_static_type ns t (k ∷ x ∷ u) b)) (λ u. refl) (λ u. tt))
-        (token ns is_key_base (a_word keyword.Int) refl (λ b. fit_static_type ns t (k ∷ []) b)) refl tt) refl)
+    (where_fits ns (word_is keyword.Const) (a_word keyword.Const) refl (λ x. text ns refl (λ u. token ns (is_base true) (a_word keyword.Int) refl (λ b. fit_static_type ns t (k ∷ x ∷ u) b)) (λ u. refl) (λ u. tt))
+    (token ns is_key_base (a_word keyword.Int) refl (λ b. fit_static_type ns t (k ∷ []) b)) refl tt) refl)
     (token ns (is_base true) (a_word keyword.Int) refl (λ b. fit_static_type ns t [] b)) refl tt) refl (λ a e. e) refl
 
 tag_name : (ns : Names) (x : Kind) → is_tag x ≡ true → on ns (is Name) x ≡ true
@@ -226,13 +226,13 @@ pub fit_typedef : (ns : Names) (t : Token) → Suited ns (TypedefRest t)
 unfolding form
 fit_typedef ns t = suited ns (TypedefRest t)
     (where_fits ns (word_is keyword.Struct) (a_word keyword.Struct) refl (λ s. token_raw ns is_tag (is Name) (a_name_of (95 ∷ [])) refl (tag_name ns) (λ g.
-        token_raw ns (is_name_of (behind_first g.bytes)) (is Name) (a_name_of (behind_first g.bytes)) (equal_bytes (behind_first g.bytes) (behind_first g.bytes) refl) (any_name ns (λ x. bytes_eq x.bytes (behind_first g.bytes)))
-        (λ n. token ns (sign_is sign.Semicolon) (a_sign sign.Semicolon) refl (λ e. done ns (item.StructType (name_at n))))))
+    token_raw ns (is_name_of (behind_first g.bytes)) (is Name) (a_name_of (behind_first g.bytes)) (equal_bytes (behind_first g.bytes) (behind_first g.bytes) refl) (any_name ns (λ x. bytes_eq x.bytes (behind_first g.bytes)))
+    (λ n. token ns (sign_is sign.Semicolon) (a_sign sign.Semicolon) refl (λ e. done ns (item.StructType (name_at n))))))
     (where_fits ns (word_is keyword.Enum) (a_word keyword.Enum) refl (λ s. token ns (sign_is sign.OpenBrace) (a_sign sign.OpenBrace) refl (λ l. text ns refl (λ ms. token ns (sign_is sign.CloseBrace) (a_sign sign.CloseBrace) refl
-        (λ r. token ns (is Name) a_name refl (λ n. token ns (sign_is sign.Semicolon) (a_sign sign.Semicolon) refl (λ e. done ns (item.Enumeration (record { members = ms; name = name_at n })))))) (λ ms. refl) (λ ms. tt)))
+    (λ r. token ns (is Name) a_name refl (λ n. token ns (sign_is sign.Semicolon) (a_sign sign.Semicolon) refl (λ e. done ns (item.Enumeration (record { members = ms; name = name_at n })))))) (λ ms. refl) (λ ms. tt)))
     (text ns refl (λ r. token ns (sign_is sign.OpenParen) (a_sign sign.OpenParen) refl (λ o. token ns (sign_is sign.Star) (a_sign sign.Star) refl (λ s. token ns (is Name) a_name refl (λ n.
-        token ns (sign_is sign.CloseParen) (a_sign sign.CloseParen) refl (λ c. token ns (sign_is sign.OpenParen) (a_sign sign.OpenParen) refl (λ p. text ns refl (λ ps. token ns (sign_is sign.CloseParen) (a_sign sign.CloseParen) refl
-        (λ q. token ns (sign_is sign.Semicolon) (a_sign sign.Semicolon) refl (λ e. done ns (item.FunctionType (signature false r n ps t.start q))))) (λ ps. refl) (λ ps. tt))))))) (λ r. refl) (λ r. tt)) refl tt) refl tt) refl (λ a e. e) refl
+    token ns (sign_is sign.CloseParen) (a_sign sign.CloseParen) refl (λ c. token ns (sign_is sign.OpenParen) (a_sign sign.OpenParen) refl (λ p. text ns refl (λ ps. token ns (sign_is sign.CloseParen) (a_sign sign.CloseParen) refl
+    (λ q. token ns (sign_is sign.Semicolon) (a_sign sign.Semicolon) refl (λ e. done ns (item.FunctionType (signature false r n ps t.start q))))) (λ ps. refl) (λ ps. tt))))))) (λ r. refl) (λ r. tt)) refl tt) refl tt) refl (λ a e. e) refl
 
 -- 3. Items
 
@@ -243,21 +243,21 @@ pub fit_item : (ns : Names) (line : Bool) → Suited ns (ItemOf line)
 unfolding form
 fit_item ns true = suited ns (ItemOf true)
     (where_fits ns begins_include (a_line_sign sign.Hash) refl (λ t. token_raw ns is_include_word (is Name) (a_name_of (codes "include")) refl (include_name ns) (λ i.
-        token ns (is File) (a_token (Header include.Glib)) refl (λ h. done ns (item.Include (file_in h.terminal)))))
+    token ns (is File) (a_token (Header include.Glib)) refl (λ h. done ns (item.Include (file_in h.terminal)))))
     (where_fits ns (on_line true (word_is keyword.Typedef)) (a_line_word keyword.Typedef) refl (λ t. text ns refl (λ i. done ns i) (λ i. refl) (λ i. refl))
     (where_fits ns (on_line true (word_is keyword.Struct)) (a_line_word keyword.Struct) refl (λ s. token_raw ns is_tag (is Name) (a_name_of (95 ∷ [])) refl (tag_name ns) (λ g. token ns (sign_is sign.OpenBrace) (a_sign sign.OpenBrace) refl (λ l.
-        text ns refl (λ fs. token ns (sign_is sign.CloseBrace) (a_sign sign.CloseBrace) refl (λ r. token ns (sign_is sign.Semicolon) (a_sign sign.Semicolon) refl (λ e.
-        done ns (item.Struct (record { name = struct_name g; fields = fs }))))) (λ fs. refl) (λ fs. tt))))
+    text ns refl (λ fs. token ns (sign_is sign.CloseBrace) (a_sign sign.CloseBrace) refl (λ r. token ns (sign_is sign.Semicolon) (a_sign sign.Semicolon) refl (λ e.
+    done ns (item.Struct (record { name = struct_name g; fields = fs }))))) (λ fs. refl) (λ fs. tt))))
     (where_fits ns (on_line true (word_is keyword.Static)) (a_line_word keyword.Static) refl (λ t. text ns refl (λ i. done ns i) (λ i. refl) (λ i. refl))
     (where_fits ns (on_line true (word_is keyword.Const)) (a_line_word keyword.Const) refl (λ t. text ns refl (λ u. token ns (is_base true) (a_word keyword.Int) refl (λ b. fit_typed_item ns true (t ∷ u) b)) (λ u. refl) (λ u. tt))
     (token ns (on_line true (is_base true)) (a_line_word keyword.Int) refl (λ b. fit_typed_item ns true [] b)) refl tt) refl tt) refl tt) refl tt) refl tt) refl (λ a e. e) refl
 fit_item ns false = suited ns (ItemOf false)
     (where_fits ns begins_include (a_line_sign sign.Hash) refl (λ t. token_raw ns is_include_word (is Name) (a_name_of (codes "include")) refl (include_name ns) (λ i.
-        token ns (is File) (a_token (Header include.Glib)) refl (λ h. done ns (item.Include (file_in h.terminal)))))
+    token ns (is File) (a_token (Header include.Glib)) refl (λ h. done ns (item.Include (file_in h.terminal)))))
     (where_fits ns (on_line false (word_is keyword.Typedef)) (a_line_word keyword.Typedef) refl (λ t. text ns refl (λ i. done ns i) (λ i. refl) (λ i. refl))
     (where_fits ns (on_line false (word_is keyword.Struct)) (a_line_word keyword.Struct) refl (λ s. token_raw ns is_tag (is Name) (a_name_of (95 ∷ [])) refl (tag_name ns) (λ g. token ns (sign_is sign.OpenBrace) (a_sign sign.OpenBrace) refl (λ l.
-        text ns refl (λ fs. token ns (sign_is sign.CloseBrace) (a_sign sign.CloseBrace) refl (λ r. token ns (sign_is sign.Semicolon) (a_sign sign.Semicolon) refl (λ e.
-        done ns (item.Struct (record { name = struct_name g; fields = fs }))))) (λ fs. refl) (λ fs. tt))))
+    text ns refl (λ fs. token ns (sign_is sign.CloseBrace) (a_sign sign.CloseBrace) refl (λ r. token ns (sign_is sign.Semicolon) (a_sign sign.Semicolon) refl (λ e.
+    done ns (item.Struct (record { name = struct_name g; fields = fs }))))) (λ fs. refl) (λ fs. tt))))
     (where_fits ns (on_line false (word_is keyword.Static)) (a_line_word keyword.Static) refl (λ t. text ns refl (λ i. done ns i) (λ i. refl) (λ i. refl))
     (where_fits ns (on_line false (word_is keyword.Const)) (a_line_word keyword.Const) refl (λ t. text ns refl (λ u. token ns (is_base true) (a_word keyword.Int) refl (λ b. fit_typed_item ns false (t ∷ u) b)) (λ u. refl) (λ u. tt))
     (token ns (on_line false (is_base true)) (a_line_word keyword.Int) refl (λ b. fit_typed_item ns false [] b)) refl tt) refl tt) refl tt) refl tt) refl tt) refl (λ a e. e) refl

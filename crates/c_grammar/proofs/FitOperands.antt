@@ -52,10 +52,10 @@ unfolding form
 fit_unnamed ns = suited ns Unnamed
     (where_fits ns is_literal a_number refl (λ t. done ns (literal t))
     (where_fits ns (word_is keyword.Sizeof) (a_word keyword.Sizeof) refl
-        (λ t. token ns (sign_is sign.OpenParen) (a_sign sign.OpenParen) refl (λ p. text ns refl (λ y. token ns (sign_is sign.CloseParen) (a_sign sign.CloseParen) refl (λ s. done ns (size_of t y s))) (λ y. refl) (λ y. tt)))
+    (λ t. token ns (sign_is sign.OpenParen) (a_sign sign.OpenParen) refl (λ p. text ns refl (λ y. token ns (sign_is sign.CloseParen) (a_sign sign.CloseParen) refl (λ s. done ns (size_of t y s))) (λ y. refl) (λ y. tt)))
     (token ns (word_is keyword.StructOffset) (a_word keyword.StructOffset) refl
-        (λ t. token ns (sign_is sign.OpenParen) (a_sign sign.OpenParen) refl (λ p. text ns refl (λ y. token ns (sign_is sign.Comma) (a_sign sign.Comma) refl (λ m. token ns (is Name) a_name refl
-            (λ n. token ns (sign_is sign.CloseParen) (a_sign sign.CloseParen) refl (λ s. done ns (offset t y n s))))) (λ y. refl) (λ y. tt))))
+    (λ t. token ns (sign_is sign.OpenParen) (a_sign sign.OpenParen) refl (λ p. text ns refl (λ y. token ns (sign_is sign.Comma) (a_sign sign.Comma) refl (λ m. token ns (is Name) a_name refl
+    (λ n. token ns (sign_is sign.CloseParen) (a_sign sign.CloseParen) refl (λ s. done ns (offset t y n s))))) (λ y. refl) (λ y. tt))))
     refl tt) refl tt) refl (λ a e. e) refl
 
 pub fit_primary : (ns : Names) (k : Bool) → Suited ns (Primary k)
@@ -71,18 +71,18 @@ fit_operand_true : (ns : Names) → Suits ns (Prefixed true) false (either (sign
 fit_operand_true ns =
     where_fits ns (sign_is sign.OpenParen) (a_sign sign.OpenParen) refl
     (λ t. choice ns (begins_type false)
-        (text ns refl (λ y. token ns (sign_is sign.CloseParen) (a_sign sign.CloseParen) refl (λ s. text ns refl (λ r. done ns (one_prefix (cast_prefix t y s) r)) (λ r. refl) (λ r. refl))) (λ y. refl) (λ y. tt))
-        (text ns refl (λ a. token ns (sign_is sign.CloseParen) (a_sign sign.CloseParen) refl (λ s. done ns ([], bracketed (join (words.at t) (words.at s)) a))) (λ a. refl) (λ a. tt))
-        refl refl refl tt)
+    (text ns refl (λ y. token ns (sign_is sign.CloseParen) (a_sign sign.CloseParen) refl (λ s. text ns refl (λ r. done ns (one_prefix (cast_prefix t y s) r)) (λ r. refl) (λ r. refl))) (λ y. refl) (λ y. tt))
+    (text ns refl (λ a. token ns (sign_is sign.CloseParen) (a_sign sign.CloseParen) refl (λ s. done ns ([], bracketed (join (words.at t) (words.at s)) a))) (λ a. refl) (λ a. tt))
+    refl refl refl tt)
     (text ns refl (λ a. done ns ([], a)) (λ a. refl) (λ a. refl)) refl tt
 
 fit_operand_false : (ns : Names) → Suits ns (Prefixed false) false (either (sign_is sign.OpenParen) (either (begins_primary false) nothing)) never (by_other (sign_is sign.OpenParen) (begins_primary false)) (cast_or_operand ns false)
 fit_operand_false ns =
     where_fits ns (sign_is sign.OpenParen) (a_sign sign.OpenParen) refl
     (λ t. choice ns (begins_type false)
-        (text ns refl (λ y. token ns (sign_is sign.CloseParen) (a_sign sign.CloseParen) refl (λ s. text ns refl (λ r. done ns (one_prefix (cast_prefix t y s) r)) (λ r. refl) (λ r. refl))) (λ y. refl) (λ y. tt))
-        (text ns refl (λ a. token ns (sign_is sign.CloseParen) (a_sign sign.CloseParen) refl (λ s. fit_suffixes_behind ns (is_place a) false (λ b. ([], b)) (bracketed (join (words.at t) (words.at s)) a) refl)) (λ a. refl) (λ a. tt))
-        refl refl refl tt)
+    (text ns refl (λ y. token ns (sign_is sign.CloseParen) (a_sign sign.CloseParen) refl (λ s. text ns refl (λ r. done ns (one_prefix (cast_prefix t y s) r)) (λ r. refl) (λ r. refl))) (λ y. refl) (λ y. tt))
+    (text ns refl (λ a. token ns (sign_is sign.CloseParen) (a_sign sign.CloseParen) refl (λ s. fit_suffixes_behind ns (is_place a) false (λ b. ([], b)) (bracketed (join (words.at t) (words.at s)) a) refl)) (λ a. refl) (λ a. tt))
+    refl refl refl tt)
     (text ns refl (λ a. fit_suffixes_behind ns (is_place a) false (λ b. ([], b)) a refl) (λ a. refl) (λ a b. refl)) refl tt
 
 pub fit_prefixed : (ns : Names) (k : Bool) → Suited ns (Prefixed k)
@@ -99,7 +99,7 @@ unfolding form
 fit_place ns = suited ns Place
     (where_fits ns (sign_is sign.Star) (a_sign sign.Star) refl (λ t. text ns refl (λ r. done ns (one_prefix (sign_prefix t) r)) (λ r. refl) (λ r. refl))
     (where_fits ns (sign_is sign.OpenParen) (a_sign sign.OpenParen) refl
-        (λ t. text ns refl (λ a. token ns (sign_is sign.CloseParen) (a_sign sign.CloseParen) refl (λ s. fit_suffixes_behind ns _ _ (λ b. ([], b)) (bracketed (join (words.at t) (words.at s)) a) refl)) (λ a. refl) (λ a. tt))
+    (λ t. text ns refl (λ a. token ns (sign_is sign.CloseParen) (a_sign sign.CloseParen) refl (λ s. fit_suffixes_behind ns _ _ (λ b. ([], b)) (bracketed (join (words.at t) (words.at s)) a) refl)) (λ a. refl) (λ a. tt))
     (text ns refl (λ a. fit_suffixes_behind ns _ _ (λ b. ([], b)) a refl) (λ a. refl) (λ a b. refl)) refl tt) refl tt) refl (λ a e. e) refl
 
 pub fit_arguments : (ns : Names) → Suited ns Arguments

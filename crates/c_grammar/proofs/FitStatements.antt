@@ -42,9 +42,9 @@ pub fit_local_rest : (ns : Names) (t : Token) → Suited ns (LocalRest t)
 unfolding form
 fit_local_rest ns t = suited ns (LocalRest t)
     (choice ns goes_on_type
-        (text ns refl (λ c. token ns (is Name) a_name refl (λ n. token ns (sign_is sign.Semicolon) (a_sign sign.Semicolon) refl (λ e. done ns (local c n)))) (λ c. refl) (λ c. tt))
-        (token ns (is Name) a_name refl (λ n. token ns (sign_is sign.Semicolon) (a_sign sign.Semicolon) refl (λ e. done ns (local (type_of [] t [] no_stars) n))))
-        refl refl refl tt) refl (λ a e. e) refl
+    (text ns refl (λ c. token ns (is Name) a_name refl (λ n. token ns (sign_is sign.Semicolon) (a_sign sign.Semicolon) refl (λ e. done ns (local c n)))) (λ c. refl) (λ c. tt))
+    (token ns (is Name) a_name refl (λ n. token ns (sign_is sign.Semicolon) (a_sign sign.Semicolon) refl (λ e. done ns (local (type_of [] t [] no_stars) n))))
+    refl refl refl tt) refl (λ a e. e) refl
 
 -- 2. Numbers, `goto` and cases
 
@@ -117,23 +117,23 @@ pub fit_plain : (ns : Names) → Suited ns PlainStmt
 unfolding form
 fit_plain ns = suited ns PlainStmt
     (where_fits ns (sign_is sign.Star) (a_sign sign.Star) refl (λ t. text ns refl
-        (λ r. token ns (sign_is sign.Assign) (a_sign sign.Assign) refl (λ e. text ns refl (λ s. done ns s) (λ s. refl) (λ s. refl))) (λ r. refl) (λ r. tt))
+    (λ r. token ns (sign_is sign.Assign) (a_sign sign.Assign) refl (λ e. text ns refl (λ s. done ns s) (λ s. refl) (λ s. refl))) (λ r. refl) (λ r. tt))
     (where_fits ns (sign_is sign.OpenParen) (a_sign sign.OpenParen) refl (λ t. text ns refl
-        (λ a. token ns (sign_is sign.CloseParen) (a_sign sign.CloseParen) refl (λ s. text ns refl (λ s. done ns s) (λ s. refl) (λ s. refl))) (λ a. refl) (λ a. tt))
+    (λ a. token ns (sign_is sign.CloseParen) (a_sign sign.CloseParen) refl (λ s. text ns refl (λ s. done ns s) (λ s. refl) (λ s. refl))) (λ a. refl) (λ a. tt))
     (choice ns begins_unnamed (text ns refl (λ a. text ns refl (λ s. done ns s) (λ s. refl) (λ s. refl)) (λ a. refl) (λ a. tt))
     (choice ns (sign_is sign.OpenBrace) (text ns refl (λ b. done ns (stmt.Block b)) (λ b. refl) (λ b. refl))
     (where_fits ns (word_is keyword.If) (a_word keyword.If) refl
-        (λ i. token ns (sign_is sign.OpenParen) (a_sign sign.OpenParen) refl (λ t. text ns refl (λ a. token ns (sign_is sign.CloseParen) (a_sign sign.CloseParen) refl (λ s.
-            choice ns (word_is keyword.Goto) (text ns refl (λ n. done ns (stmt.IfGoto a (name_at n))) (λ n. refl) (λ n. refl))
-            (text ns refl (λ b. text ns refl (λ s. done ns s) (λ s. refl) (λ s. refl)) (λ b. refl) (λ b. refl)) refl refl refl tt)) (λ a. refl) (λ a. tt)))
+    (λ i. token ns (sign_is sign.OpenParen) (a_sign sign.OpenParen) refl (λ t. text ns refl (λ a. token ns (sign_is sign.CloseParen) (a_sign sign.CloseParen) refl (λ s.
+    choice ns (word_is keyword.Goto) (text ns refl (λ n. done ns (stmt.IfGoto a (name_at n))) (λ n. refl) (λ n. refl))
+    (text ns refl (λ b. text ns refl (λ s. done ns s) (λ s. refl) (λ s. refl)) (λ b. refl) (λ b. refl)) refl refl refl tt)) (λ a. refl) (λ a. tt)))
     (choice ns (word_is keyword.Goto) (text ns refl (λ n. done ns (stmt.Goto (name_at n))) (λ n. refl) (λ n. refl))
     (where_fits ns (word_is keyword.Switch) (a_word keyword.Switch) refl
-        (λ i. token ns (sign_is sign.OpenParen) (a_sign sign.OpenParen) refl (λ t. text ns refl (λ a. token ns (sign_is sign.CloseParen) (a_sign sign.CloseParen) refl (λ s.
-            token ns (sign_is sign.OpenBrace) (a_sign sign.OpenBrace) refl (λ l. text ns refl (λ r. token ns (sign_is sign.CloseBrace) (a_sign sign.CloseBrace) refl
-            (λ s. done ns (stmt.Switch a r.0 (name_at r.1)))) (λ r. refl) (λ r. tt)))) (λ a. refl) (λ a. tt)))
+    (λ i. token ns (sign_is sign.OpenParen) (a_sign sign.OpenParen) refl (λ t. text ns refl (λ a. token ns (sign_is sign.CloseParen) (a_sign sign.CloseParen) refl (λ s.
+    token ns (sign_is sign.OpenBrace) (a_sign sign.OpenBrace) refl (λ l. text ns refl (λ r. token ns (sign_is sign.CloseBrace) (a_sign sign.CloseBrace) refl
+    (λ s. done ns (stmt.Switch a r.0 (name_at r.1)))) (λ r. refl) (λ r. tt)))) (λ a. refl) (λ a. tt)))
     (token ns (word_is keyword.Return) (a_word keyword.Return) refl (λ t.
-        where_fits ns (sign_is sign.Semicolon) (a_sign sign.Semicolon) refl (λ e. done ns (stmt.Return (words.at t) None))
-        (text ns refl (λ a. token ns (sign_is sign.Semicolon) (a_sign sign.Semicolon) refl (λ e. done ns (stmt.Return (words.at t) (Some a)))) (λ a. refl) (λ a. tt)) refl tt))
+    where_fits ns (sign_is sign.Semicolon) (a_sign sign.Semicolon) refl (λ e. done ns (stmt.Return (words.at t) None))
+    (text ns refl (λ a. token ns (sign_is sign.Semicolon) (a_sign sign.Semicolon) refl (λ e. done ns (stmt.Return (words.at t) (Some a)))) (λ a. refl) (λ a. tt)) refl tt))
     refl tt) refl refl refl tt) refl tt) refl refl refl tt) refl refl refl tt) refl tt) refl tt) refl (λ a e. e) refl
 
 -- the brackets of a call, and `;`
@@ -234,6 +234,6 @@ fit_assigned ns b = suited ns (Assigned b)
     (where_fits ns (is_prefix false) (a_sign sign.Plus) refl (λ t. text ns refl (λ r. fit_value_end ns b _) (λ r. refl) (λ r. tt))
     (where_fits ns (sign_is sign.Ampersand) (a_sign sign.Ampersand) refl (λ t. text ns refl (λ r. fit_value_end ns b _) (λ r. refl) (λ r. tt))
     (where_fits ns (sign_is sign.OpenParen) (a_sign sign.OpenParen) refl (λ t. choice ns (begins_type false)
-        (text ns refl (λ y. token ns (sign_is sign.CloseParen) (a_sign sign.CloseParen) refl (λ s. text ns refl (λ r. fit_value_end ns b _) (λ r. refl) (λ r. tt))) (λ y. refl) (λ y. tt))
-        (text ns refl (λ a. token ns (sign_is sign.CloseParen) (a_sign sign.CloseParen) refl (λ s. text ns refl (λ s. done ns s) (λ s. refl) (λ s. refl))) (λ a. refl) (λ a. tt)) refl refl refl tt)
+    (text ns refl (λ y. token ns (sign_is sign.CloseParen) (a_sign sign.CloseParen) refl (λ s. text ns refl (λ r. fit_value_end ns b _) (λ r. refl) (λ r. tt))) (λ y. refl) (λ y. tt))
+    (text ns refl (λ a. token ns (sign_is sign.CloseParen) (a_sign sign.CloseParen) refl (λ s. text ns refl (λ s. done ns s) (λ s. refl) (λ s. refl))) (λ a. refl) (λ a. tt)) refl refl refl tt)
     (text ns refl (λ a. text ns refl (λ s. done ns s) (λ s. refl) (λ s. refl)) (λ a. refl) (λ a. tt)) refl tt) refl tt) refl tt) refl tt) refl (λ a e. e) refl

@@ -224,7 +224,7 @@ pub sound_declared : (ns : Names) (b : Bool) (c : CType) (n : Token) (from : ℕ
 unfolding form
 sound_declared ns b c n from w x (took o e (got {u = p} ps m (took {w = z} s g d))) u v st ty i mf hs =
     let h = declared_told ns (list_all has_name ps) (signature b c n ps from s) (λ i. i) ((u ++ v) ++ (n ∷ (o ∷ (p ++ (s ∷ []))))) z x refl
-        (signature_told ns b c n from u v p o s ps st ty i mf hs (is_sign ns sign.OpenParen o e) m (is_sign ns sign.CloseParen s g)) d in
+    (signature_told ns b c n from u v p o s ps st ty i mf hs (is_sign ns sign.OpenParen o e) m (is_sign ns sign.CloseParen s g)) d in
     item_at (append_assoc (u ++ v) (n ∷ o ∷ (p ++ (s ∷ []))) z ∙ ap (λ (y : Word). (u ++ v) ++ (n ∷ o ∷ y)) (append_assoc p (s ∷ []) z)) (subst (λ (y : Item). ReadsItem ns (((u ++ v) ++ (n ∷ (o ∷ (p ++ (s ∷ []))))) ++ z) y) (sym h.1) h.2)
 
 pub sound_typed_end : (ns : Names) (c : CType) → Holds ns (TypedEnd c)
@@ -405,19 +405,24 @@ typed_item_told ns line u b w x c d (got {u = p} y m (got {u = q} z l (gave a)))
 
 pub sound_item : (ns : Names) (line : Bool) → Holds ns (ItemOf line)
 unfolding form
-sound_item ns line w x (one (took t e (took i f (took h g (gave a))))) = (includes (is_sign ns sign.Hash t (and_first (on ns (sign_is sign.Hash) (kind t)) t.begins_line e)) (and_second (on ns (sign_is sign.Hash) (kind t)) t.begins_line e)
-    (named_told (codes "include") i (and_first (is_name_of (codes "include") (kind i)) (not i.begins_line) f)) (not_told i.begins_line (and_second (is_name_of (codes "include") (kind i)) (not i.begins_line) f)) (file_told h.terminal g),
-    (λ j. and_second (on ns (sign_is sign.Hash) (kind t)) t.begins_line e))
+sound_item ns line w x (one (took t e (took i f (took h g (gave a))))) = (
+  includes (is_sign ns sign.Hash t (and_first (on ns (sign_is sign.Hash) (kind t)) t.begins_line e)) (and_second (on ns (sign_is sign.Hash) (kind t)) t.begins_line e)
+      (named_told (codes "include") i (and_first (is_name_of (codes "include") (kind i)) (not i.begins_line) f)) (not_told i.begins_line (and_second (is_name_of (codes "include") (kind i)) (not i.begins_line) f)) (file_told h.terminal g),
+  (λ j. and_second (on ns (sign_is sign.Hash) (kind t)) t.begins_line e),
+)
 sound_item ns line w x (other (one (took t e (got {u = p} i m (gave a))))) =
     (item_at (ap (λ (z : Word). t ∷ z) (sym (append-nil p))) (m (is_word ns keyword.Typedef t (of_line line ns (word_is keyword.Typedef) t e))), line_of line ns (word_is keyword.Typedef) t e)
 sound_item ns line w x (other (other (one (took s e (took g f (took l h (got {u = p} fs m (took r j (took c o (gave a)))))))))) =
-    let y = tag_is g f in (struct_is r c (is_word ns keyword.Struct s (of_line line ns (word_is keyword.Struct) s e)) y (is_sign ns sign.OpenBrace l h) m (is_sign ns sign.CloseBrace r j) (is_sign ns sign.Semicolon c o),
-    line_of line ns (word_is keyword.Struct) s e)
+    let y = tag_is g f in (
+      struct_is r c (is_word ns keyword.Struct s (of_line line ns (word_is keyword.Struct) s e)) y (is_sign ns sign.OpenBrace l h) m (is_sign ns sign.CloseBrace r j) (is_sign ns sign.Semicolon c o),
+      line_of line ns (word_is keyword.Struct) s e,
+    )
 sound_item ns line w x (other (other (other (one (took t e (got {u = p} i m (gave a))))))) =
     (item_at (ap (λ (z : Word). t ∷ z) (sym (append-nil p))) (m (is_word ns keyword.Static t (of_line line ns (word_is keyword.Static) t e))), line_of line ns (word_is keyword.Static) t e)
-sound_item ns line w x (other (other (other (other (one (took t e (got {u = u} y m (took {w = z} b f d)))))))) =
-    (subst (λ (q : Word). ReadsItem ns (t ∷ (q ++ (b ∷ z))) x) m.same (typed_item_told ns line (t ∷ y) b z x (more_const (is_word ns keyword.Const t (of_line line ns (word_is keyword.Const) t e)) (consts_of m)) (base_told ns true b f) d),
-    line_of line ns (word_is keyword.Const) t e)
+sound_item ns line w x (other (other (other (other (one (took t e (got {u = u} y m (took {w = z} b f d)))))))) = (
+  subst (λ (q : Word). ReadsItem ns (t ∷ (q ++ (b ∷ z))) x) m.same (typed_item_told ns line (t ∷ y) b z x (more_const (is_word ns keyword.Const t (of_line line ns (word_is keyword.Const) t e)) (consts_of m)) (base_told ns true b f) d),
+  line_of line ns (word_is keyword.Const) t e,
+)
 sound_item ns line w x (other (other (other (other (other (took {w = z} b f d)))))) =
     (typed_item_told ns line [] b z x no_const (base_told ns true b (of_line line ns (is_base true) b f)) d, line_of line ns (is_base true) b f)
 

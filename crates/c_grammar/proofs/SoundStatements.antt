@@ -184,42 +184,54 @@ pub record SomeCall (ns : Names) (o : Option Expr) (w : Word) (x : Stmt) : Type 
 
 value_call_told : (ns : Names) {r : What} (o : Option Expr) (a : Expr) (f : Stmt → tree_of r) (u w : Word) (x : tree_of r) → Reads ns false v.Postfixed u a → Told Meant (at ns r) (call_behind ns o a f) w x
     → (s : Stmt) × (x ≡ f s) × SomeCall ns o (u ++ w) s
-value_call_told ns o a f u w x d (took t e (got {u = p} xs m (took s g (took c h (gave i))))) = (call_stmt o (value_call a xs s), refl, record {
-  call = value_call a xs s;
-  told = record {
-    word = u ++ t ∷ p ++ s ∷ [];
-    close = c;
-    same = sym (append_assoc (u ++ t ∷ p) (s ∷ []) (c ∷ []) ∙ append_assoc u (t ∷ p) (s ∷ c ∷ []));
-    reads = call_value t s d (is_sign ns sign.OpenParen t e) m (is_sign ns sign.CloseParen s g);
-    is_close = is_sign ns sign.Semicolon c h;
-  };
-  same = refl;
-})
+value_call_told ns o a f u w x d (took t e (got {u = p} xs m (took s g (took c h (gave i))))) = (
+  call_stmt o (value_call a xs s),
+  refl,
+  record {
+    call = value_call a xs s;
+    told = record {
+      word = u ++ t ∷ p ++ s ∷ [];
+      close = c;
+      same = sym (append_assoc (u ++ t ∷ p) (s ∷ []) (c ∷ []) ∙ append_assoc u (t ∷ p) (s ∷ c ∷ []));
+      reads = call_value t s d (is_sign ns sign.OpenParen t e) m (is_sign ns sign.CloseParen s g);
+      is_close = is_sign ns sign.Semicolon c h;
+    };
+    same = refl;
+  },
+)
 
 row_told : (ns : Names) {r : What} (o : Option Expr) (n : Token) (b : Bool) (f : Stmt → tree_of r) (w : Word) (x : tree_of r) → IsName n → role_of ns n.bytes ≡ RowName b
     → Told Meant (at ns r) (row_behind ns o n b f) w x → (s : Stmt) × (x ≡ f s) × SomeCall ns o (n ∷ w) s
-row_told ns o n false f w x i j (took t e (got {u = p} xs m (took s g (took c h (gave a))))) = (call_stmt o (row_call n None xs s), refl, record {
-  call = row_call n None xs s;
-  told = record {
-    word = n ∷ t ∷ p ++ s ∷ [];
-    close = c;
-    same = sym (append_assoc (n ∷ t ∷ p) (s ∷ []) (c ∷ []));
-    reads = call_row s i j (is_sign ns sign.OpenParen t e) m (is_sign ns sign.CloseParen s g);
-    is_close = is_sign ns sign.Semicolon c h;
-  };
-  same = refl;
-})
-row_told ns o n true f w x i j (took t e (got {u = y} z l (got {u = p} xs m (took s g (took c h (gave a)))))) = (call_stmt o (row_call n (Some z) xs s), refl, record {
-  call = row_call n (Some z) xs s;
-  told = record {
-    word = n ∷ t ∷ y ++ p ++ s ∷ [];
-    close = c;
-    same = sym (append_assoc (n ∷ t ∷ y ++ p) (s ∷ []) (c ∷ []) ∙ append_assoc (n ∷ t ∷ y) p (s ∷ c ∷ []));
-    reads = call_type_row s i j (is_sign ns sign.OpenParen t e) l.reads (l.fits refl) m (is_sign ns sign.CloseParen s g);
-    is_close = is_sign ns sign.Semicolon c h;
-  };
-  same = refl;
-})
+row_told ns o n false f w x i j (took t e (got {u = p} xs m (took s g (took c h (gave a))))) = (
+  call_stmt o (row_call n None xs s),
+  refl,
+  record {
+    call = row_call n None xs s;
+    told = record {
+      word = n ∷ t ∷ p ++ s ∷ [];
+      close = c;
+      same = sym (append_assoc (n ∷ t ∷ p) (s ∷ []) (c ∷ []));
+      reads = call_row s i j (is_sign ns sign.OpenParen t e) m (is_sign ns sign.CloseParen s g);
+      is_close = is_sign ns sign.Semicolon c h;
+    };
+    same = refl;
+  },
+)
+row_told ns o n true f w x i j (took t e (got {u = y} z l (got {u = p} xs m (took s g (took c h (gave a)))))) = (
+  call_stmt o (row_call n (Some z) xs s),
+  refl,
+  record {
+    call = row_call n (Some z) xs s;
+    told = record {
+      word = n ∷ t ∷ y ++ p ++ s ∷ [];
+      close = c;
+      same = sym (append_assoc (n ∷ t ∷ y ++ p) (s ∷ []) (c ∷ []) ∙ append_assoc (n ∷ t ∷ y) p (s ∷ c ∷ []));
+      reads = call_type_row s i j (is_sign ns sign.OpenParen t e) l.reads (l.fits refl) m (is_sign ns sign.CloseParen s g);
+      is_close = is_sign ns sign.Semicolon c h;
+    };
+    same = refl;
+  },
+)
 
 -- the statement of a call
 stmt_of_call : (ns : Names) (w : Word) (x s : Stmt) → x ≡ s → SomeCall ns None w s → ReadsStmt ns w x
@@ -335,7 +347,7 @@ switch_told : (ns : Names) (i t s l c : Token) (u p : Word) (a : Expr) (r : List
     → AreCases p r → IsSign c sign.CloseBrace → ReadsStmt ns (i ∷ t ∷ (u ++ (s ∷ l ∷ (p ++ (c ∷ []))))) (stmt.Switch a r.0 (name_at r.1))
 switch_told ns i t s l c u p a r e f d g h m j =
     stmt_at (append_assoc (i ∷ t ∷ u ++ s ∷ l ∷ m.front) (m.last ∷ m.colon ∷ m.behind) (c ∷ []) ∙ append_assoc (i ∷ t ∷ u) (s ∷ l ∷ m.front) (m.last ∷ m.colon ∷ (m.behind ++ (c ∷ [])))
-        ∙ ap (λ (z : Word). i ∷ t ∷ (u ++ (s ∷ l ∷ z))) (sym (append_assoc m.front (m.last ∷ m.colon ∷ m.behind) (c ∷ [])) ∙ ap (λ (z : Word). z ++ (c ∷ [])) (sym m.same)))
+    ∙ ap (λ (z : Word). i ∷ t ∷ (u ++ (s ∷ l ∷ z))) (sym (append_assoc m.front (m.last ∷ m.colon ∷ m.behind) (c ∷ [])) ∙ ap (λ (z : Word). z ++ (c ∷ [])) (sym m.same)))
     (switches s l m.last m.colon c r.1 e f d g h m.cases m.is_default m.is_colon m.goes j)
 
 pub sound_plain : (ns : Names) → Holds ns PlainStmt

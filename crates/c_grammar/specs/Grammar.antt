@@ -150,7 +150,7 @@ row_behind ns o n false f =
     opening ns sign.OpenParen (λ t. inner ns Arguments (λ xs. sign_here ns sign.CloseParen (λ s. sign_here ns sign.Semicolon (λ e. give (f (call_stmt o (row_call n None xs s)))))))
 row_behind ns o n true f =
     opening ns sign.OpenParen (λ t. inner ns (AnyType true true) (λ c. inner ns MoreArguments (λ xs. sign_here ns sign.CloseParen (λ s. sign_here ns sign.Semicolon (λ e.
-        give (f (call_stmt o (row_call n (Some c) xs s))))))))
+    give (f (call_stmt o (row_call n (Some c) xs s))))))))
 
 -- `:` and `;` behind the name of a label
 abbrev pub label_behind : (ns : Names) (t : Token) → Form C (at ns (NamedStmt t))
@@ -284,7 +284,7 @@ form ns Unnamed =
     where_token ns is_literal (λ t. give (literal t))
     (where_token ns (word_is keyword.Sizeof) (λ t. opening ns sign.OpenParen (λ r. inner ns (AnyType true true) (λ y. sign_here ns sign.CloseParen (λ s. give (size_of t y s)))))
     (token ns (word_is keyword.StructOffset) (λ t. opening ns sign.OpenParen (λ r. inner ns (AnyType true true) (λ y.
-        token_inside ns (sign_is sign.Comma) (λ m. token_inside ns (is Name) (λ n. sign_here ns sign.CloseParen (λ s. give (offset t y n s)))))))))
+    token_inside ns (sign_is sign.Comma) (λ m. token_inside ns (is Name) (λ n. sign_here ns sign.CloseParen (λ s. give (offset t y n s)))))))))
 form ns (Suffixes dot true) =
     where_token ns (is_field dot) (λ t. token ns (is Name) (λ n. just ns (Suffixes true false) (λ xs. field_suffix t.terminal (name_at n) ∷ xs))) (index_behind ns)
 form ns (Suffixes dot false) =
@@ -317,7 +317,7 @@ form ns PlainStmt =
     (pick (on ns (word_is keyword.Goto)) (just ns GotoOf (λ n. stmt.Goto (name_at n)))
     (where_token ns (word_is keyword.Switch) (λ i. value_inside ns (λ a. opening ns sign.OpenBrace (λ l. inner ns Cases (λ r. sign_here ns sign.CloseBrace (λ s. give (stmt.Switch a r.0 (name_at r.1)))))))
     (token ns (word_is keyword.Return) (λ t.
-        where_token ns (sign_is sign.Semicolon) (λ e. give (stmt.Return (words.at t) None)) (here ns (Value false) (λ a. sign_here ns sign.Semicolon (λ e. give (stmt.Return (words.at t) (Some a)))))))))))))
+    where_token ns (sign_is sign.Semicolon) (λ e. give (stmt.Return (words.at t) None)) (here ns (Value false) (λ a. sign_here ns sign.Semicolon (λ e. give (stmt.Return (words.at t) (Some a)))))))))))))
 form ns (NamedStmt t) = named_behind ns t (role_of ns t.bytes)
 form ns (ValueStmt a) = here ns (Suffixes (is_place a) false) (λ xs. stored_behind ns (is_place (suffixed a xs)) (suffixed a xs) (λ s. s))
 form ns (Assigned b) =
@@ -325,7 +325,7 @@ form ns (Assigned b) =
     (where_token ns (is_prefix false) (λ t. here ns (Prefixed false) (λ r. value_behind ns (with_prefixes (one_prefix (sign_prefix t) r))))
     (where_token ns (sign_is sign.Ampersand) (λ t. here ns Place (λ r. value_behind ns (with_prefixes (one_prefix (sign_prefix t) r))))
     (where_open ns sign.OpenParen (λ t.
-        pick (on ns (begins_type false)) (cast_behind ns false t (λ r. value_behind ns (with_prefixes r))) (bracket_end ns false t (λ a. just ns (AssignedTail b a) (λ s. s))))
+    pick (on ns (begins_type false)) (cast_behind ns false t (λ r. value_behind ns (with_prefixes r))) (bracket_end ns false t (λ a. just ns (AssignedTail b a) (λ s. s))))
     (here ns Unnamed (λ a. just ns (AssignedTail b a) (λ s. s))))))
 form ns (AssignedTail b a) = here ns (Suffixes (is_place a) false) (λ xs. called_or_value ns b a xs)
 form ns (ElseOf a b) = where_token ns (word_is keyword.Else) (λ l. just ns BlockOf (λ d. stmt.If a b (Some d))) (give (stmt.If a b None))
@@ -352,21 +352,21 @@ form ns (StaticEnd t c) = take unchanged 0 (is_free_name (is_object c)) (λ n. s
 form ns (InfoEnd t k i) = info_behind ns t k i (type_of (k ∷ []) i [] no_stars) (can_be_type true (role_of ns i.bytes))
 form ns (StaticRest t) =
     where_token ns (word_is keyword.Const) (λ k.
-        pick (is_info_or_type ns) (take unchanged 0 (is_info_or_type ns) (λ i. static_const ns t k i (bytes_eq i.bytes (codes "GInterfaceInfo"))))
-        (where_token ns (word_is keyword.Const) (λ x. here ns Consts (λ u. token ns (is_base true) (λ b. static_type ns t (k ∷ x ∷ u) b)))
-        (token ns is_key_base (λ b. static_type ns t (k ∷ []) b))))
+    pick (is_info_or_type ns) (take unchanged 0 (is_info_or_type ns) (λ i. static_const ns t k i (bytes_eq i.bytes (codes "GInterfaceInfo"))))
+    (where_token ns (word_is keyword.Const) (λ x. here ns Consts (λ u. token ns (is_base true) (λ b. static_type ns t (k ∷ x ∷ u) b)))
+    (token ns is_key_base (λ b. static_type ns t (k ∷ []) b))))
     (token ns (is_base true) (λ b. static_type ns t [] b))
 form ns (TypedefRest t) =
     where_token ns (word_is keyword.Struct) (λ s. take unchanged 0 is_tag (λ g. take unchanged 0 (is_name_of (behind_first g.bytes)) (λ n. sign_here ns sign.Semicolon (λ e. give (item.StructType (name_at n))))))
     (where_token ns (word_is keyword.Enum) (λ s. opening ns sign.OpenBrace (λ l. inner ns Members (λ ms. sign_here ns sign.CloseBrace (λ r. token ns (is Name) (λ n. sign_here ns sign.Semicolon (λ e.
-        give (item.Enumeration (record { members = ms; name = name_at n }))))))))
+    give (item.Enumeration (record { members = ms; name = name_at n }))))))))
     (here ns (AnyType true false) (λ r. opening ns sign.OpenParen (λ o. token_inside ns (sign_is sign.Star) (λ s. token_inside ns (is Name) (λ n. sign_here ns sign.CloseParen (λ c. opening ns sign.OpenParen (λ p.
-        inner ns (ParametersOf false) (λ ps. sign_here ns sign.CloseParen (λ q. sign_here ns sign.Semicolon (λ e. give (item.FunctionType (signature false r n ps t.start q)))))))))))))
+    inner ns (ParametersOf false) (λ ps. sign_here ns sign.CloseParen (λ q. sign_here ns sign.Semicolon (λ e. give (item.FunctionType (signature false r n ps t.start q)))))))))))))
 form ns (ItemOf line) =
     where_token ns begins_include (λ t. take unchanged 0 is_include_word (λ i. token ns (is File) (λ h. give (item.Include (file_in h.terminal)))))
     (where_token ns (on_line line (word_is keyword.Typedef)) (λ t. just ns (TypedefRest t) (λ i. i))
     (where_token ns (on_line line (word_is keyword.Struct)) (λ s. take unchanged 0 is_tag (λ g. opening ns sign.OpenBrace (λ l. inner ns Fields (λ fs. sign_here ns sign.CloseBrace (λ r. sign_here ns sign.Semicolon (λ e.
-        give (item.Struct (record { name = struct_name g; fields = fs }))))))))
+    give (item.Struct (record { name = struct_name g; fields = fs }))))))))
     (where_token ns (on_line line (word_is keyword.Static)) (λ t. just ns (StaticRest t) (λ i. i))
     (where_token ns (on_line line (word_is keyword.Const)) (λ t. here ns Consts (λ u. token ns (is_base true) (λ b. typed_item ns (t ∷ u) b)))
     (token ns (on_line line (is_base true)) (λ b. typed_item ns [] b))))))
