@@ -22,3 +22,4 @@ pub mod FindItems
 pub mod SoundItems
 pub mod Joined
 pub mod Readers
+pub mod Levels

@@ -1,6 +1,6 @@
 // The laws of the grammar. The bodies do nothing: the clauses are theorems.
 
-ghost use Rattle.c_grammar.specs.Laws.{BlocksAreTold, HasOneTree, ItemsAreTold, ReadsExactly, StatementsAreTold, TypesAreTold, ValuesAreTold};
+ghost use Rattle.c_grammar.specs.Laws.{BlocksAreTold, HasOneTree, ItemsAreTold, LevelsAreCounted, ReadsExactly, StatementsAreTold, TypesAreTold, ValuesAreTold};
 ghost use Rattle.c_tree.specs.Laws.{OneUnit};
 
 /// The reader of each part answers what the grammar says: the tree as far as a text goes, or the first fault.
@@ -33,4 +33,9 @@ pub fn items_are_told()
 /// Tokens are one unit at most.
 pub fn tokens_are_one_unit()
     ensures { OneUnit }
+{}
+
+/// The levels of a text of items are within the limits exactly where no more than 64 brackets are open anywhere.
+pub fn levels_are_counted()
+    ensures { LevelsAreCounted }
 {}
