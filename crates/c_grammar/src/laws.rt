@@ -1,7 +1,9 @@
 // The laws of the grammar. The bodies do nothing: the clauses are theorems.
 
 ghost use Rattle.c_grammar.specs.Laws.{BlocksAreTold, HasOneTree, ItemsAreTold, LevelsAreCounted, ReadsExactly, StatementsAreTold, TypesAreTold, ValuesAreTold};
-ghost use Rattle.c_tree.specs.Laws.{OneUnit};
+ghost use Rattle.c_tree.specs.Laws.{OneAnswer, OneUnit};
+
+use c_tree::one_answer;
 
 /// The reader of each part answers what the grammar says: the tree as far as a text goes, or the first fault.
 pub fn texts_are_read_exactly()
@@ -39,3 +41,11 @@ pub fn tokens_are_one_unit()
 pub fn levels_are_counted()
     ensures { LevelsAreCounted }
 {}
+
+/// Bytes have one answer at most: a unit or one refusal.
+pub fn bytes_have_one_answer()
+    ensures { OneAnswer }
+{
+    one_answer();
+    tokens_are_one_unit();
+}
