@@ -25,12 +25,11 @@ use Rattle.c_tree.specs.Make.{name_at}
 use Rattle.c_tree.specs.Statements.{ReadsLocal, ReadsBlock}
 use Rattle.c_tree.specs.Items as s
 use Rattle.c_tree.specs.Items.{ReadsMember, ReadsMoreMembers, ReadsFields, ReadsParameter, ReadsMoreParameters, ReadsParameters, ReadsStatic, ReadsSignature, ReadsItem, ReadsItems, ReadsUnit, has_name, ends_line}
-use Rattle.c_tree.specs.Faults.{least}
 use Rattle.c_tree.specs.Unit.{Bodies, items_faults, unit_faults, has_main}
 use Rattle.c_tree.specs.Rules.{Checker, checked_block}
 use Rattle.c_tree.specs.Env.{library}
 use Rattle.c_tree.proofs.Peel.{peeled, checked_peeled, peeled_block, block_peeled}
-use Rattle.c_tree.specs.Answers.{Answers, Says, Whole, without_main, refusal}
+use Rattle.c_tree.specs.Answers.{Answers, Says, Whole, without_main, first_of}
 use Rattle.c_tree.specs.Answers as a
 use Rattle.c_tree.proofs.Tests.{Taken, Got, take_one, then, or_else, holds, fails, seq, front, name, a_header, comma, assign, semicolon, star, hash, open_paren, close_paren, open_brace, close_brace, void_word, static_word, typedef_word, struct_word, enum_word, Tests, const_word}
 use Rattle.c_tree.proofs.FindValues.{type_at, value}
@@ -337,8 +336,8 @@ pub same_faults : (u : CUnit) → unit_faults u ≡ peeled_faults u
 same_faults u =
     ap (λ (c : Checker). items_faults c (checked_block c) library u.items) (checked_peeled 100) ∙ ap (λ (b : Bodies). items_faults (peeled 100) b library u.items) (block_peeled (peeled 100) 100)
 
-abbrev says_by : (text : Word) (n : ℕ) (u : CUnit) → ReadsUnit text u → (o : Option Fault) → least None (peeled_faults u ++ without_main u n) ≡ o → Option (peeled_faults u ≡ []) → Option (has_main u ≡ true) → Option ((r : Result CUnit Fault) × Says text (Whole n) r)
-says_by text n u h (Some f) e x y = Some (Err f, a.faulty n u f h (ap (λ (fs : List Fault). least None (fs ++ without_main u n)) (same_faults u) ∙ e))
+abbrev says_by : (text : Word) (n : ℕ) (u : CUnit) → ReadsUnit text u → (o : Option Refusal) → first_of None (peeled_faults u ++ without_main u n) ≡ o → Option (peeled_faults u ≡ []) → Option (has_main u ≡ true) → Option ((r : Result CUnit Refusal) × Says text (Whole n) r)
+says_by text n u h (Some f) e x y = Some (Err f, a.faulty n u f h (ap (λ (fs : List Fault). first_of None (fs ++ without_main u n)) (same_faults u) ∙ e))
 says_by text n u h None e (Some p) (Some q) = Some (Ok u, a.unit n u h (same_faults u ∙ p, q))
 says_by text n u h None e x y = None
 
@@ -346,12 +345,12 @@ abbrev no_faults : (fs : List Fault) → Option (fs ≡ [])
 no_faults [] = Some refl
 no_faults (f ∷ fs) = None
 
-abbrev answer_by : (bytes : List ℕ) (limit : ℕ) (ts : List Lexeme) → Tokens (all_of bytes) ts None → length bytes ≤ limit → (r : Result CUnit Fault) → Says (words ts) (Whole (length bytes)) r → (s : Result CUnit Refusal) × Answers bytes limit s
+abbrev answer_by : (bytes : List ℕ) (limit : ℕ) (ts : List Lexeme) → Tokens (all_of bytes) ts None → length bytes ≤ limit → (r : Result CUnit Refusal) → Says (words ts) (Whole (length bytes)) r → (s : Result CUnit Refusal) × Answers bytes limit s
 answer_by bytes limit ts q h (Ok u) x = (Ok u, a.reads u ts h q x)
-answer_by bytes limit ts q h (Err f) x = (Err (refusal f), a.refused f ts None h q x)
+answer_by bytes limit ts q h (Err f) x = (Err f, a.refused f ts None h q x)
 
 -- What bytes answer, where this reader finds it: of texts that are no unit for want of grammar it says nothing.
 abbrev pub answer_at : ℕ → (bytes : List ℕ) (limit : ℕ) → length bytes ≤ limit → Option ((s : Result CUnit Refusal) × Answers bytes limit s)
 answer_at f bytes limit h =
     then (lex f (all_of bytes)) (λ ts. then (unit_at f (words ts.0)) (λ u.
-    then (says_by (words ts.0) (length bytes) u.0 u.1 (least None (peeled_faults u.0 ++ without_main u.0 (length bytes))) refl (no_faults (peeled_faults u.0)) (holds (has_main u.0))) (λ r. Some (answer_by bytes limit ts.0 ts.1 h r.0 r.1))))
+    then (says_by (words ts.0) (length bytes) u.0 u.1 (first_of None (peeled_faults u.0 ++ without_main u.0 (length bytes))) refl (no_faults (peeled_faults u.0)) (holds (has_main u.0))) (λ r. Some (answer_by bytes limit ts.0 ts.1 h r.0 r.1))))

@@ -9,18 +9,15 @@ use Rattle.c_lexer.specs.declared.token.Sign.TheVariants as sign
 use Rattle.c_lexer.specs.Tokens.{all_of}
 use Rattle.c_lexer.specs.Tokens as lexed
 use Rattle.c_tree.specs.declared.kinds.Cause.{Cause}
-use Rattle.c_tree.specs.declared.kinds.Fault.{Fault}
 use Rattle.c_tree.specs.Words.{Terminal, Of, Word, Token}
 use Rattle.c_tree.specs.Items.{ReadsUnit}
-use Rattle.c_tree.specs.Faults.{least, known, is_before}
-use Rattle.c_tree.specs.Unit.{unit_faults}
-use Rattle.c_tree.specs.Answers.{Answers, Begins, Broken, far}
+use Rattle.c_tree.specs.Answers.{Answers, Begins, Broken}
 use Rattle.c_tree.specs.Answers as answer
 use Rattle.c_tree.specs.Examples.{Accepted, Refused, AcceptedTexts, RefusedTexts}
 use Rattle.c_tree.proofs.FindUnits.{answer_at, unit_at}
 
 abbrev word : Terminal → List ℕ → Token
-word x bytes = record { terminal = x; bytes = bytes; start = far; end = far; begins_line = false }
+word x bytes = record { terminal = x; bytes = bytes; start = 1; end = 1; begins_line = false }
 
 abbrev Answer : Type 0
 Answer = Result CUnit Refusal
@@ -340,29 +337,19 @@ made_main =
     word (Of (k.Keyword keyword.Int)) [] ∷ word (Of k.Identifier) (codes "main") ∷ word (Of (k.Sign sign.OpenParen)) [] ∷ word (Of (k.Keyword keyword.Int)) [] ∷ word (Of (k.Sign sign.Comma)) []
     ∷ word (Of (k.Keyword keyword.Char)) [] ∷ word (Of (k.Sign sign.Star)) [] ∷ word (Of (k.Sign sign.Star)) [] ∷ word (Of (k.Sign sign.CloseParen)) [] ∷ word (Of (k.Sign sign.Semicolon)) [] ∷ []
 
-begun : (o : Option ((u : CUnit) × ReadsUnit made_main u)) → is_some o ≡ true → Begins []
-begun (Some r) e = (made_main, r.0, search rules, r.1)
+begun : (o : Option ((u : CUnit) × ReadsUnit made_main u)) → is_some o ≡ true → Begins 0 []
+begun (Some r) e = record { shallow = refl; rest = made_main; items = r.0.items; made = search rules; reads = r.1.items }
 begun None e = absurd (no e)
 
-nothing_begins : Begins []
+nothing_begins : Begins 0 []
 nothing_begins = begun (unit_at 100 made_main) refl
-
--- nothing comes before what is no token at the first byte
-never_before : (f : Fault) → is_before f (record { place = 0; cause = cause.Token; since = 0 }) ≡ false
-never_before f = by_cause f.cause f.place f.since
-  where
-    by_cause : (c : Cause) (p s : ℕ) → is_before (record { place = p; cause = c; since = s }) (record { place = 0; cause = cause.Token; since = 0 }) ≡ false
-    by_cause c p s = grind (arith)
-
-stays_first : (fs : List Fault) → least (Some (record { place = 0; cause = cause.Token; since = 0 })) fs ≡ Some (record { place = 0; cause = cause.Token; since = 0 })
-stays_first [] = refl
-stays_first (f ∷ fs) = rw (never_before f) (stays_first fs)
 
 no_token : Refused bad cause.Token 0
 unfolding Rattle.c_lexer.specs.Tokens.next_of Rattle.c_lexer.specs.Blanks.blanks_within Rattle.c_lexer.specs.Cut.cut
 no_token =
-    answer.refused (record { place = 0; cause = cause.Token; since = 0 }) [] (Some (record { at = 0 })) (omega arith) (lexed.broken (all_of bad) (record { at = 0 }) refl)
-    (answer.stopped (Broken 0) [] (record { place = 0; cause = cause.Token; since = 0 }) (record { place = 0; cause = cause.Token; since = 0 }) (answer.at_broken 0) nothing_begins (λ v u h r. stays_first (known 0 (unit_faults u))))
+    answer.refused (record { cause = cause.Token; at = 0 }) [] (Some (record { at = 0 })) (omega arith) (lexed.broken (all_of bad) (record { at = 0 }) refl)
+    (answer.stopped (Broken 0) [] (record { place = 0; cause = cause.Token; since = 0 }) (record { cause = cause.Token; at = 0 }) (answer.at_broken 0) nothing_begins
+    (λ v is h r. refl))
 
 pub accepted_texts : AcceptedTexts
 accepted_texts = record { prints = prints; structs = structs; hidden_type = hidden_type; members = members; chains = chains; jumps = jumps; function_types = function_types; pointers_move = pointers_move; not_evaluated = not_evaluated; prototypes = prototypes; integer_types = integer_types; hidden_function = hidden_function; labels_are_apart = labels_are_apart; interface_tables = interface_tables; switches = switches; offsets = offsets; calls = calls; deepest = deepest }

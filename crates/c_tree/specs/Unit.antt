@@ -257,7 +257,10 @@ item_faults known body env (item.Variable v) =
     ++ (known v.value).value.faults env
     ++ fit env (kind_of env v.declared) (known v.value)
     ++ ends_faults ((known v.value).value.kind env) ((known v.value).value.worth env) (known v.value).span
-item_faults known body env (item.InterfaceTable t) = variable_twice (found env.scopes t.name.text) t.name ++ function_faults (found env.scopes t.init.text) t.init
+item_faults known body env (item.InterfaceTable t) =
+    variable_twice (found env.scopes t.name.text) t.name
+    ++ not_laid_out env (kind_named env (codes "GInterfaceInfo")) t.name
+    ++ function_faults (found env.scopes t.init.text) t.init
 item_faults known body env (item.Function f) =
     again env f.signature true (found env.scopes f.signature.name.text)
     ++ signature_faults env f.signature
