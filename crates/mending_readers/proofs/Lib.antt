@@ -1,0 +1,3 @@
+pub mod Mends
+pub mod Menders
+pub mod Small
