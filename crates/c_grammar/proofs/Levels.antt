@@ -1,5 +1,6 @@
 -- The level of a letter is how many signs are open behind it, as c_tree counts them.
 use Rattle.std.proofs.Common.{◌≡◌, ℕ, suc, ◌<◌, ◌≤◌, ◌==◌, nat_le, Bool, true, false, not, ◌&&◌, ◌||◌, List, [], ◌∷◌, ◌++◌, length, Option, Some, None, codes, refl, sym, ap, subst, ◌∙◌, true≢false, arith, le-leb, leb-true}
+use Rattle.std.specs.Prelude.{◌↔◌}
 use Rattle.std.specs.List.{list_all}
 use Rattle.std.specs.Str.{bytes_eq}
 use Rattle.predictive_grammar.specs.Forms.{Form, give, take, part, pick}
@@ -7,7 +8,6 @@ use Rattle.predictive_grammar.specs.Follows.{Follows, given, taken, read, first,
 use Rattle.predictive_grammar.specs.Follows as letters
 use Rattle.predictive_grammar.specs.Exact.{IsWithin}
 use Rattle.predictive_grammar.proofs.Sets.{and_first, and_second}
-use Rattle.c_lexer.specs.declared.token.Constant.TheVariants as constant
 use Rattle.c_lexer.specs.declared.token.TokenKind.TheVariants as k
 use Rattle.c_lexer.specs.declared.token.Keyword.TheVariants as keyword
 use Rattle.c_lexer.specs.declared.token.Sign.{Sign}
@@ -19,17 +19,17 @@ use Rattle.c_tree.specs.declared.code.Expr.{Expr}
 use Rattle.c_tree.specs.declared.unit.Signature.{Signature as CSignature}
 use Rattle.c_tree.specs.declared.unit.Item.{Item}
 use Rattle.c_tree.specs.declared.code.Stmt.{Stmt}
-use Rattle.c_tree.specs.Words.{Terminal, Of, Header, Token, Word, Open, with_sign, with_terminal, is_shallow}
+use Rattle.c_tree.specs.Words.{Terminal, Of, Token, Word, Open, with_sign, with_terminal, is_shallow}
 use Rattle.c_tree.specs.Names.{Names, Role, TypeName, RowName, VariableName, FunctionName, MemberName, Unknown, role_of, is_int}
 use Rattle.c_tree.specs.Types.{is_object, can_be_type}
 use Rattle.c_tree.specs.Items.{has_name}
 use Rattle.c_tree.specs.Values.{tighter, is_place}
 use Rattle.c_tree.specs.Make.{suffixed, chained}
 use Rattle.c_grammar.specs.Sorts.{Kind, kind, on, Name, Number, Null, File, sort_of, role_in}
-use Rattle.c_grammar.specs.Tests.{Set, is, sign_is, word_is, name_with, is_base, is_key_base, is_literal, is_callee_role, is_other_base, is_int_base, is_char_base, begins_include, links, is_prefix, is_value_role, is_field, on_line, is_any_name, is_name_of, is_tag, is_free_name, is_info_or_type, is_include_word, is_main, begins_low}
-use Rattle.c_grammar.specs.Trees.{with_prefixes, signature, type_of, no_stars, behind_first, name_value}
+use Rattle.c_grammar.specs.Tests.{Set, is, sign_is, word_is, name_with, is_base, is_key_base, is_literal, is_callee_role, is_other_base, is_int_base, is_char_base, begins_include, links, is_prefix, is_value_role, is_field, on_line, is_any_name, is_name_of, is_main, begins_low}
+use Rattle.c_grammar.specs.Trees.{with_prefixes, signature, type_of, no_stars, behind_first}
 use Rattle.c_grammar.specs.Parts.{What, Part, tree_of, at, Consts, Stars, TypeRest, TypeMore, AnyType, Value, Choosing, ChoosingTail, Upto, Links, Operand, Prefixed, Place, Primary, Unnamed, Suffixes, Arguments, MoreArguments, KeyType, LocalOf, LocalRest, SignedNumberOf, GotoOf, Cases, BlockOf, Body, Statements, Statement, PlainStmt, NamedStmt, ValueStmt, Assigned, AssignedTail, ElseOf, MemberOf, Members, MoreMembers, Fields, ParameterOf, ParameterEnd, MoreParameters, ParametersOf, IntType, TextsType, TableInside, DeclaredOf, TypedEnd, StaticEnd, InfoEnd, StaticRest, TypedefRest, ItemOf, ItemsOf}
-use Rattle.c_grammar.specs.Grammar.{C, form, forms, just, unchanged, inside, suffixes_behind, cast_or_operand, index_behind, upto_behind, tail_behind, base_behind, body_named, named_behind, label_behind, row_behind, call_behind, stored_behind, assigned_named, declared_end, static_named, info_named, info_behind, static_const, table_behind, variable_behind}
+use Rattle.c_grammar.specs.Grammar.{C, form, forms, just, unchanged, inside, cast_or_operand, upto_behind, tail_behind, body_named, named_behind, label_behind, row_behind, stored_behind, assigned_named, declared_end, static_named, info_named, info_behind, static_const}
 use Rattle.c_grammar.specs.Laws.{c_limits, LevelsAreCounted}
 use Rattle.c_grammar.proofs.Classes.{is_within, within}
 use Rattle.c_grammar.proofs.Tokens.{sign_told}
@@ -37,12 +37,12 @@ use Rattle.c_grammar.proofs.Tokens.{sign_told}
 -- 1. Counting
 
 -- each letter's level is how many signs are open behind it, and none begins a further item of a list
-abbrev Counted : Open → letters.Word C → Type 0
+abbrev pub Counted : Open → letters.Word C → Type 0
 Counted o [] = Unit {0}
 Counted o (x ∷ w) = (x.level ≡ length (with_terminal o x.token.terminal)) × (x.items ≡ 0) × Counted (with_terminal o x.token.terminal) w
 
 -- what is open behind letters
-abbrev after : Open → letters.Word C → Open
+abbrev pub after : Open → letters.Word C → Open
 after o [] = o
 after o (x ∷ w) = after (with_terminal o x.token.terminal) w
 
@@ -437,7 +437,31 @@ balanced ns (TypedefRest t) = b_typedef ns t
 balanced ns (ItemOf line) = b_item ns line
 balanced ns (ItemsOf line) = picks (reads never (λ l. refl) (λ b. reads never (λ l. refl) (λ b. ends))) (ends)
 
+-- the letters of items are counted, and below the limit they are shallow
+pub counted_items : (ns : Names) (w : letters.Word C) (is : List Item) → Reads C forms None (at ns (ItemsOf false)) 0 w is → Counted [] w
+counted_items ns w is d = (keeps (λ (q : Part). balanced q.names q.what) (balanced ns (ItemsOf false)) d [] refl (λ e. never e)).counted
+
+pub front_shallow : (w : letters.Word C) → Counted [] w → IsWithin c_limits w → is_shallow [] (raw w) ≡ true
+front_shallow w c i = within_shallow (λ (q : Part). balanced q.names q.what) [] w c i
+
 pub levels_are_counted : LevelsAreCounted
 levels_are_counted ns w is d =
     let h = keeps (λ (q : Part). balanced q.names q.what) (balanced ns (ItemsOf false)) d [] refl (λ e. never e) in
     ((λ i. within_shallow (λ (q : Part). balanced q.names q.what) [] w h.counted i), (λ i. shallow_within (λ (q : Part). balanced q.names q.what) [] w h.counted i))
+
+pub counted_front : (o : Open) (u w : letters.Word C) → Counted o (u ++ w) → Counted o u
+counted_front o [] w c = tt
+counted_front o (x ∷ u) w c = (c.0, c.1, counted_front (with_terminal o x.token.terminal) u w c.2)
+
+-- the same of the front of a text
+pub fronts_are_counted : (ns : Names) (w z : letters.Word C) (is : List Item) → Reads C forms None (at ns (ItemsOf false)) 0 (w ++ z) is → IsWithin c_limits w ↔ (is_shallow [] (raw w) ≡ true)
+fronts_are_counted ns w z is d =
+    let c = counted_front [] w z (counted_items ns (w ++ z) is d) in ((λ i. within_shallow (λ (q : Part). balanced q.names q.what) [] w c i), (λ i. shallow_within (λ (q : Part). balanced q.names q.what) [] w c i))
+
+counted_last : (o : Open) (w : letters.Word C) (x : letters.Letter Token) → Counted o (w ++ x ∷ []) → x.items ≡ 0
+counted_last o [] x c = c.1
+counted_last o (y ∷ w) x c = counted_last (with_terminal o y.token.terminal) w x c.2
+
+-- no letter begins a further item of a list
+pub none_begins_items : (ns : Names) (w : letters.Word C) (x : letters.Letter Token) (z : letters.Word C) (is : List Item) → Reads C forms None (at ns (ItemsOf false)) 0 ((w ++ x ∷ []) ++ z) is → x.items ≡ 0
+none_begins_items ns w x z is d = counted_last [] w x (counted_front [] (w ++ x ∷ []) z (counted_items ns ((w ++ x ∷ []) ++ z) is d))

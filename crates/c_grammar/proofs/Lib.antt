@@ -22,4 +22,9 @@ pub mod FindItems
 pub mod SoundItems
 pub mod Joined
 pub mod Readers
+pub mod Serving
+pub mod Heights
+pub mod Menders
 pub mod Levels
+pub mod Fronts
+pub mod Mended

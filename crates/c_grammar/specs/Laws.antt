@@ -1,16 +1,17 @@
 -- What the laws of the grammar speak of.
-use Rattle.std.specs.Prelude.{◌≡◌, ℕ, Bool, true, false, List, None, ◌↔◌, []}
+use Rattle.std.specs.Prelude.{◌≡◌, ℕ, ◌<◌, Bool, true, false, List, None, ◌↔◌, []}
 use Rattle.predictive_grammar.specs.Follows.{raw, Reads}
 use Rattle.predictive_grammar.specs.Follows as letters
 use Rattle.predictive_grammar.specs.Steps.{Limits, Parser}
 use Rattle.predictive_grammar.specs.Reading.{reader}
 use Rattle.predictive_grammar.specs.Exact.{IsText, IsWithin, Answers}
+use Rattle.mending_readers.specs.Mending.{Going, Mends}
 use Rattle.c_tree.specs.declared.names.CType.{CType}
 use Rattle.c_tree.specs.declared.code.Expr.{Expr}
 use Rattle.c_tree.specs.declared.code.Stmt.{Stmt}
 use Rattle.c_tree.specs.declared.code.Block.{Block}
 use Rattle.c_tree.specs.declared.unit.Item.{Item}
-use Rattle.c_tree.specs.Words.{Token, Word, is_shallow}
+use Rattle.c_tree.specs.Words.{Token, Word, start_of, is_shallow}
 use Rattle.c_tree.specs.Names.{Names}
 use Rattle.c_tree.specs.Types.{ReadsType, is_object}
 use Rattle.c_tree.specs.Values as v
@@ -19,6 +20,7 @@ use Rattle.c_tree.specs.Items.{ReadsItems}
 use Rattle.c_grammar.specs.Parts.{What, Part, tree_of, at, AnyType, Value, Statement, BlockOf, ItemsOf}
 use Rattle.c_grammar.specs.Grammar.{C, forms}
 use Rattle.c_grammar.specs.Tables.{tables}
+use Rattle.c_grammar.specs.Mending.{c_mender}
 
 -- what the tokens from here on say of a part
 abbrev pub c_reader : Limits → (p : Part) → ℕ → Parser ⊥ Token (tree_of p.what)
@@ -63,3 +65,13 @@ c_limits = record { levels = 65; items = 1 }
 -- The levels of a text of items are within the limits exactly where no more than 64 brackets are open anywhere.
 abbrev pub LevelsAreCounted : Type 0
 LevelsAreCounted = (ns : Names) (w : letters.Word C) (is : List Item) → Reads C forms None (at ns (ItemsOf false)) 0 w is → IsWithin c_limits w ↔ (is_shallow [] (raw w) ≡ true)
+
+-- the token stands behind the place where a text with this end stops at these tokens
+abbrev pub IsBehind : (end : ℕ) → (rest : Word) → Token → Type 0
+IsBehind «end» rest t = (start_of «end» rest < t.start) × (start_of «end» rest < t.end)
+
+-- The mending reader of each part gives the tree that its reader reads; or where that finds a fault, the tree of a text that begins with the tokens
+-- in front and goes on with tokens behind that place.
+abbrev pub TextsAreMended : Type 0
+TextsAreMended = (end : ℕ) (p : Part) (level : ℕ) (limits : Limits) (input : List Token)
+    → Mends C forms p level limits (c_reader limits p level) (IsBehind «end») input (c_mender «end» limits p level (Going input))

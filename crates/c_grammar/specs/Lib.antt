@@ -4,4 +4,6 @@ pub mod Tests
 pub mod Trees
 pub mod Grammar
 pub mod Tables
+pub mod Mending
 pub mod Laws
+pub mod Fronts

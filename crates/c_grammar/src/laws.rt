@@ -1,6 +1,7 @@
 // The laws of the grammar. The bodies do nothing: the clauses are theorems.
 
-ghost use Rattle.c_grammar.specs.Laws.{BlocksAreTold, HasOneTree, ItemsAreTold, LevelsAreCounted, ReadsExactly, StatementsAreTold, TypesAreTold, ValuesAreTold};
+ghost use Rattle.c_grammar.specs.Fronts.{FrontsAreCompleted};
+ghost use Rattle.c_grammar.specs.Laws.{BlocksAreTold, HasOneTree, ItemsAreTold, LevelsAreCounted, ReadsExactly, StatementsAreTold, TextsAreMended, TypesAreTold, ValuesAreTold};
 ghost use Rattle.c_tree.specs.Laws.{OneAnswer, OneUnit};
 
 use c_tree::one_answer;
@@ -49,3 +50,13 @@ pub fn bytes_have_one_answer()
     one_answer();
     tokens_are_one_unit();
 }
+
+/// Where the reader of a part finds a fault, the mending reader gives the tree of a text that goes on, else what is read.
+pub fn texts_are_mended()
+    ensures { TextsAreMended }
+{}
+
+/// The mending reader of items gives the items of a text, or what stops it and items that its front begins.
+pub fn fronts_are_completed()
+    ensures { FrontsAreCompleted }
+{}

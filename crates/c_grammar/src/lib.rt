@@ -4,6 +4,7 @@
 mod laws;
 
 pub use laws::{
-    bytes_have_one_answer, items_are_told, levels_are_counted, statements_are_told,
-    texts_are_read_exactly, texts_have_one_tree, tokens_are_one_unit, values_are_told,
+    bytes_have_one_answer, fronts_are_completed, items_are_told, levels_are_counted,
+    statements_are_told, texts_are_mended, texts_are_read_exactly, texts_have_one_tree,
+    tokens_are_one_unit, values_are_told,
 };
