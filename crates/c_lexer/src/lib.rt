@@ -11,8 +11,6 @@ mod lexer;
 mod numbers;
 mod pieces;
 mod signs;
-#[cfg(test)]
-mod tests;
 mod texts;
 mod token;
 mod words;

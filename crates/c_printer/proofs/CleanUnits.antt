@@ -1,5 +1,5 @@
 -- Units that are read keep the rules exactly where they do without places.
-use Rattle.std.proofs.Common.{◌≡◌, ◌∙◌, refl, sym, ap, ap₂, not, ℕ, Bool, true, false, cond, ◌&&◌, ◌||◌, ◌==◌, List, [], ◌∷◌, ◌++◌, map, Option, Some, None}
+use Rattle.std.proofs.Common.{◌≡◌, ◌∙◌, refl, sym, ap, ap₂, not, ℕ, Bool, true, false, cond, ◌&&◌, ◌||◌, ◌==◌, List, [], ◌∷◌, ◌++◌, map, Option, Some, None, codes}
 use Rattle.std.specs.Option.{option_map}
 use Rattle.std.specs.List.{list_any}
 use Rattle.c_tree.specs.declared.names.Name.{Name}
@@ -29,7 +29,7 @@ use Rattle.c_tree.specs.Faults.{fault, twice, unless}
 use Rattle.c_tree.specs.Checks.{checked, type_faults}
 use Rattle.c_tree.specs.Types.{is_object}
 use Rattle.c_tree.specs.Rules.{Context, Body, checked_block, fit, laid_out_if, not_laid_out, twice_here}
-use Rattle.c_tree.specs.Unit.{parameter_kinds, takes_of, with_optional, with_parameter, with_parameters, twice_optional, parameter_faults, signature_faults, unlaid, unlaid_optional, unlaid_parameters, unlaid_result, again, is_defined_already, with_function, has_name, label_faults, target_faults, block_end, body_faults, fields_declared, has_field, field_faults, with_fields, fields_cells, define_struct, defined_twice, struct_faults, with_members, member_faults, with_item, variable_twice, ends_faults, function_faults, item_faults, items_faults, is_main, unit_faults, has_main}
+use Rattle.c_tree.specs.Unit.{parameter_kinds, takes_of, with_optional, with_parameter, with_parameters, twice_optional, parameter_faults, signature_faults, unlaid, unlaid_optional, unlaid_parameters, unlaid_result, again, is_defined_already, with_function, has_name, label_faults, target_faults, block_end, body_faults, fields_declared, has_field, field_faults, with_fields, fields_cells, define_struct, defined_twice, struct_faults, with_members, member_faults, with_item, variable_twice, ends_faults, function_faults, kind_named, item_faults, items_faults, is_main, unit_faults, has_main}
 use Rattle.c_tree.specs.Items as it
 use Rattle.c_tree.specs.Items.{ReadsItem, ReadsItems, no_item, more_items}
 use Rattle.c_tree.specs.Answers.{IsSound}
@@ -254,8 +254,12 @@ item_clean {ns} (it.static_variable n a e {c} {x} b rc o d f rx g) env =
     (fits_like env (kind_of env (bare_type c)) (kind_of env c) (checked (bare_expr x)) (checked x) (kind_bare env c) h))
     (ends_clean ((checked (bare_expr x)).value.kind env) ((checked (bare_expr x)).value.worth env) (checked (bare_expr x)).span (checked x).span ∙ (λ i. clean (ends_faults (h.kind env i) (h.worth env i) (checked x).span)))
 item_clean (it.interface_table {n} {f} i1 i2 i3 i4 i5 i6 i7 i8 i9 j1 j2 j3 j4 j5 j6 j7) env =
-    both_clean (variable_twice (found env.scopes n.bytes) (bare_name (name_at n))) (function_faults (found env.scopes f.bytes) (bare_name (name_at f))) (variable_twice (found env.scopes n.bytes) (name_at n)) (function_faults (found env.scopes f.bytes) (name_at f))
-    (variable_clean (found env.scopes n.bytes) _ _) (named_clean (found env.scopes f.bytes) _ _)
+    both_clean (variable_twice (found env.scopes n.bytes) (bare_name (name_at n)) ++ not_laid_out env (kind_named env (codes "GInterfaceInfo")) (bare_name (name_at n))) (function_faults (found env.scopes f.bytes) (bare_name (name_at f)))
+    (variable_twice (found env.scopes n.bytes) (name_at n) ++ not_laid_out env (kind_named env (codes "GInterfaceInfo")) (name_at n)) (function_faults (found env.scopes f.bytes) (name_at f))
+    (both_clean (variable_twice (found env.scopes n.bytes) (bare_name (name_at n))) (not_laid_out env (kind_named env (codes "GInterfaceInfo")) (bare_name (name_at n)))
+    (variable_twice (found env.scopes n.bytes) (name_at n)) (not_laid_out env (kind_named env (codes "GInterfaceInfo")) (name_at n)) (variable_clean (found env.scopes n.bytes) _ _)
+    (laid_clean env (kind_named env (codes "GInterfaceInfo")) (kind_named env (codes "GInterfaceInfo")) (bare_name (name_at n)) (name_at n) refl))
+    (named_clean (found env.scopes f.bytes) _ _)
 item_clean (it.function_is {s} {b} rs names rb) env =
     let q = block_like rb in
     both_clean (again env (bare_signature s) true (found env.scopes s.name.text) ++ signature_faults env (bare_signature s) ++ unlaid_result env (bare_signature s) ++ unlaid_parameters env nowhere (map bare_parameter s.parameters))

@@ -3,8 +3,6 @@
 
 mod calls;
 mod depth;
-#[cfg(test)]
-mod depth_tests;
 mod functions;
 mod grade;
 mod group;
@@ -16,15 +14,9 @@ mod output;
 mod piece;
 mod spelling;
 mod statements;
-#[cfg(test)]
-mod tests;
 mod token;
 mod types;
 mod unit;
-#[cfg(test)]
-mod unit_tests;
-#[cfg(test)]
-mod value_tests;
 mod values;
 mod writer;
 

@@ -27,10 +27,14 @@ fn text_of(alloc: Global, brackets: Brackets, unit: &Unit) -> Result<Vec<u8>, Me
 }
 
 // Whether a text is short enough to be read, and nests no deeper than 64 brackets.
-fn can_be_read(text: &[u8]) -> bool
-    ensures { result ≡ true → IsShallowText text.now }
+fn can_be_read(alloc: Global, text: &[u8]) -> Result<bool, Memory>
+    ensures { IfOk result (λ readable. readable ≡ true → IsShallowText text.now) }
 {
-    text.len() < 1 << 32 && is_shallow(text)
+    if text.len() < 1 << 32 {
+        is_shallow(alloc, text)
+    } else {
+        Ok(false)
+    }
 }
 
 /// The text of a unit, one statement a line. It is read as the unit, apart from places. Brackets that the grammar does not need
@@ -41,7 +45,8 @@ pub fn print(alloc: Global, unit: &Unit) -> Result<Vec<u8>, Memory>
     tokens_are_read();
     tokens_cover();
     let clear = text_of(alloc, Brackets::Clear, unit)?;
-    if can_be_read(&clear) {
+    let is_readable = can_be_read(alloc, &clear)?;
+    if is_readable {
         return Ok(clear);
     }
     text_of(alloc, Brackets::Needed, unit)

@@ -1,7 +1,7 @@
 // Units and the texts that are wanted of them.
 
-use crate::unit::print;
 use c_lexer::NumberType;
+use c_printer::print;
 use c_tree::{
     Base, BinaryOperator, Block, CType, Expr, Function, Include, Item, Link, Local, Name, Number,
     Parameter, Shape, Signature, Span, Stmt, Unit,

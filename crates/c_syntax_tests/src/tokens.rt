@@ -1,9 +1,6 @@
 // The tokens of small texts, and where they stop.
 
-use crate::apart::needs_space;
-use crate::cursor::Lexer;
-use crate::texts::text_value;
-use crate::token::{NumberType, Token, TokenKind};
+use c_lexer::{Lexer, NumberType, Token, TokenKind, needs_space, text_value};
 use std::alloc::Global;
 use std::test::Fail;
 

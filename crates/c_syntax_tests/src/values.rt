@@ -1,9 +1,7 @@
 // A value and the text that is wanted of it.
 
-use crate::grade::{Brackets, Place};
-use crate::output::Writer;
-use crate::values::put_value;
 use c_lexer::NumberType;
+use c_printer::{Brackets, Place, Writer, put_value};
 use c_tree::{Expr, Number, Shape, Span};
 use std::test::Fail;
 

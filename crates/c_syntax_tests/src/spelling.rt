@@ -1,9 +1,7 @@
 // What is put, as text.
 
-use crate::output::Writer;
-use crate::piece::Piece;
-use crate::token::put_token;
 use c_lexer::{Constant, Keyword, Lexer, NumberType, Sign, text_value};
+use c_printer::{Piece, Writer, put_token};
 use std::alloc::Global;
 use std::test::Fail;
 use vg_base::Memory;
