@@ -1,0 +1,4 @@
+pub mod Laws
+pub mod Roles
+pub mod Rows
+pub mod Seen
