@@ -1,0 +1,5 @@
+pub mod Heap
+pub mod Runs
+pub mod Sizes
+pub mod States
+pub mod Texts
