@@ -1,0 +1,10 @@
+pub mod BuiltIns
+pub mod Outline
+pub mod Code
+pub mod Members
+pub mod Search
+pub mod Table
+pub mod Types
+pub mod Spelling
+pub mod Faults
+pub mod Laws
