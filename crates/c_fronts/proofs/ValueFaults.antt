@@ -94,7 +94,7 @@ long_most (plain plain_silent) = plain plain_silent
 long_most lacks = lacks
 
 pub offset_most : (env : Env) (x : Name) (o : Option Kind) → AtMost x (on o (offset_outcome env x))
-offset_most env x o = most_on o (offset_outcome env x) (λ k. long_most (field_most env k x))
+offset_most env x o = most_on o (offset_outcome env x) (λ k. most_if (laid_out env k) (as_long (field_of env k x)) (long_most (field_most env k x)))
 
 -- that it lacks a field
 abbrev pub lack_faults : Outcome → List Fault

@@ -40,7 +40,7 @@ record HasTokens (l : Left) : Type 0 where
   o : Option BadToken
   tokens : Tokens l ts o
 
-token_moves : (l : Left) (t : Lexeme) → next_of l ≡ Ok (Some t) → l.at < t.end
+pub token_moves : (l : Left) (t : Lexeme) → next_of l ≡ Ok (Some t) → l.at < t.end
 token_moves l t h =
     let f : TokenFound l t = token_found l t h in
     let some : 0 < f.found.len = (found_within l.bytes (l.at + f.gap.len) (begins_line l.at f.gap) f.found f.inside f.cut_is).0 in

@@ -23,7 +23,7 @@ use Rattle.c_tree.specs.Library.{Literal}
 use Rattle.c_tree.specs.Library.{Word as WordOf}
 use Rattle.c_tree.specs.Library.{Figure as FigureOf}
 use Rattle.c_tree.specs.Library.{Field as Declared}
-use Rattle.c_tree.specs.Env.{Env, found, fields_of, field_named, target, kind_of, base_kind}
+use Rattle.c_tree.specs.Env.{Env, found, fields_of, field_named, target, kind_of, base_kind, laid_out}
 use Rattle.c_tree.specs.Faults.{Outcome, Gives, Wrong, Lacks, Silent, outcome_kind, outcome_faults, on}
 use Rattle.c_tree.specs.Checks as c
 use Rattle.c_tree.specs.Checks.{Checked, Known, KnownLink, KnownChoice, KnownSuffix, Field, Arrow, Index, check_shape, check_suffix, checked, operand_if, operand_of, is_null_literal, type_faults, undeclared_if, field_of, field_by, field_outcome, field_found, arrow_of, suffix_outcome, suffix_kind, suffix_faults, suffix_end, index_faults, prefix_by, prefix_kind, prefix_faults, cast_faults, joined, join_outcome, chain_kind, chain_faults, chain_worth, told_both, choice_outcome, choice_operand, choice_faults, choices_worth, in_kind, chosen_worth, told_prefix, prefixes_worth, signed_literal, minus_literal, as_long, offset_outcome, offset_worth, struct_offset, offset_in, size_outcome}
@@ -360,7 +360,7 @@ offset_like t x s r = record {
 }
   where
     like : (env : Env) → OutcomeLike (on (kind_of env (bare_type t)) (offset_outcome env (bare_name x))) (on (kind_of env (bare_type t)) (offset_outcome env x))
-    like env = on_like (kind_of env (bare_type t)) (offset_outcome env (bare_name x)) (offset_outcome env x) (λ k. long_like (field_like env k x))
+    like env = on_like (kind_of env (bare_type t)) (offset_outcome env (bare_name x)) (offset_outcome env x) (λ k. if_like (laid_out env k) (as_long (field_of env k (bare_name x))) (as_long (field_of env k x)) (long_like (field_like env k x)))
 
 pub variable_like : (x : Name) → CheckedLike (check_shape (Shape-F.Variable (bare_name x))) (check_shape (Shape-F.Variable x))
 variable_like x = record { literal = refl; kind = λ env. refl; clean_is = λ env. undeclared_clean (found env.scopes x.text) (bare_name x) x; worth = λ env. refl }

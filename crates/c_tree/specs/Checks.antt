@@ -265,9 +265,9 @@ abbrev pub as_long : Outcome → Outcome
 as_long (Gives k) = Gives long
 as_long o = o
 
--- the place of a field of a struct
+-- the place of a field of a struct that is laid out
 abbrev pub offset_outcome : Env → Name → Kind → Outcome
-offset_outcome env x k = as_long (field_of env k x)
+offset_outcome env x k = if laid_out env k then as_long (field_of env k x) else Wrong
 
 -- a number with `-` before it
 abbrev pub minus_literal : Prefix → ℕ → Option Literal
