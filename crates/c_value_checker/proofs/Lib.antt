@@ -1,0 +1,11 @@
+pub mod NotedLemmas
+pub mod ScopeLemmas
+pub mod OutcomeLemmas
+pub mod PrefixLemmas
+pub mod ChoiceLemmas
+pub mod ValueLemmas
+pub mod StructLemmas
+pub mod OperandLemmas
+pub mod RowLemmas
+pub mod ShapeLemmas
+pub mod PartLemmas

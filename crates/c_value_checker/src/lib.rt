@@ -1,0 +1,25 @@
+// The checker of the values of C: what kinds give, and the kinds and faults of values.
+#![tactic(auto)]
+
+mod environment;
+mod faults;
+mod fields;
+mod judged;
+mod kinds;
+mod layout;
+mod operations;
+mod outcome;
+mod prefixes;
+mod scopes;
+mod singles;
+mod values;
+
+pub use environment::{Environment, Field, Row, Structure, Takes};
+pub use faults::{Findings, is_before, keep};
+pub use judged::{Judged, Literal};
+pub use kinds::{
+    GPOINTER, INT, LONG, TEXT, UINT, ULONG, VOID, applied, casts, choose, common, fits,
+    is_argument, is_function, is_integer, is_pointer, is_pointer_or_function, is_scalar, is_struct,
+    is_void, level_of, same, widened,
+};
+pub use values::check_value;
