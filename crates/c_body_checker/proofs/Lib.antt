@@ -1,0 +1,4 @@
+pub mod CallLemmas
+pub mod BodyLemmas
+pub mod LabelLemmas
+mod NumberLemmas

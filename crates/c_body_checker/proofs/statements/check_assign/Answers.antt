@@ -1,0 +1,6 @@
+use Rattle.c_value_checker.proofs.NotedLemmas.{behind_step}
+use Rattle.c_body_checker.proofs.statements.check_assign.Goals as goal
+
+pub returns : goal.returns
+returns c = behind_step c.args.findings.now c.begin-floor.new.self c.check_assigned.new.findings _ c.begin-floor.result _ c.begin-floor.ensures.now
+    c.begin-floor.ensures.before c.in_ok-check_assigned.ensures
