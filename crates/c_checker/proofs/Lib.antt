@@ -1,0 +1,5 @@
+mod Steps
+mod TableLemmas
+mod FunctionLemmas
+mod ItemLemmas
+mod StartLemmas

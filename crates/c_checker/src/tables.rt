@@ -1,0 +1,301 @@
+// Structs and signatures, as a unit declares them.
+
+ghost use Rattle.std.specs.Prelude.{◌≡◌, ◌+◌, ◌++◌, [], ◌∷◌, map, IfOk, OnOk, Some};
+ghost use Rattle.c_tree.specs.Env.{kind_of, number_of, same_takes, signature_number, structure_named, with_signature};
+ghost use Rattle.c_tree.specs.Kinds.{plain, same_known, same_list};
+ghost use Rattle.c_tree.specs.Unit.{define_struct, fields_cells, fields_declared, known_cells, new_struct, parameter_kinds, takes_of, with_fields};
+ghost use Rattle.c_value_checker.specs.Seen.{field_seen, seen, structure_seen, takes_seen};
+
+use c_tree::{Kind, KindBase, Local, Name, Parameter, Signature, Sort};
+use c_value_checker::{Environment, Field, Structure, Takes, same};
+use sqlite_items::{Items, at};
+use std::alloc::Global;
+use vg_base::Memory;
+
+// 1. Structs
+
+pub fn copy(alloc: Global, text: &[u8]) -> Result<Items<u8>, Memory>
+    ensures { IfOk result (λ copy. copy ≡ text.now) }
+{
+    match Items::from_slice(alloc, text) {
+        Ok(copy) => Ok(copy),
+        Err(_) => Err(Memory),
+    }
+}
+
+pub fn push_struct(structs: &mut Items<Structure>, one: Structure) -> Result<(), Memory>
+    ensures { OnOk result (structs.new ≡ structs.old ++ one ∷ []) }
+{
+    match structs.push(one) {
+        Ok(()) => Ok(()),
+        Err(_) => Err(Memory),
+    }
+}
+
+/// A number of a table, where it has 32 bits.
+pub fn number_in(count: usize) -> Result<u32, Memory>
+    ensures { IfOk result (λ number. number ≡ count) }
+{
+    match u32::try_from(count) {
+        Ok(number) => Ok(number),
+        Err(_) => Err(Memory),
+    }
+}
+
+/// A kind without `*`.
+pub fn plain(base: KindBase) -> Kind
+    ensures { result ≡ plain base }
+{
+    Kind { base, stars: 0 }
+}
+
+/// `typedef struct _X X;`: a struct that is not defined yet.
+#[tactic(auto, using(crate::proofs::TableLemmas::struct_declared))]
+pub fn add_struct(alloc: Global, environment: &mut Environment, name: &Name) -> Result<(), Memory>
+    ensures { OnOk result (seen environment.new ≡ new_struct (seen environment.old) name.now) }
+{
+    let number = number_in(environment.structs.len())?;
+    let text = copy(alloc, name.text.as_slice())?;
+    push_struct(
+        &mut environment.structs,
+        Structure {
+            name: text,
+            fields: None,
+            cells: 0,
+        },
+    )?;
+    environment.declare(alloc, name, Sort::Type(plain(KindBase::Struct(number))))
+}
+
+/// The number of the struct with a name.
+#[tactic(auto, using(crate::proofs::TableLemmas::struct_turn, crate::proofs::TableLemmas::struct_found))]
+pub fn struct_number(structs: &[Structure], name: &Name) -> Option<usize>
+    ensures { result ≡ structure_named 0 (map structure_seen structs.now) name.now.text }
+{
+    let mut number = 0;
+    for structure in structs {
+        if structure.name.as_slice() == name.text.as_slice() {
+            return Some(number);
+        }
+        number += 1;
+    }
+    None
+}
+
+pub fn push_field(fields: &mut Items<Field>, one: Field) -> Result<(), Memory>
+    ensures { OnOk result (fields.new ≡ fields.old ++ one ∷ []) }
+{
+    match fields.push(one) {
+        Ok(()) => Ok(()),
+        Err(_) => Err(Memory),
+    }
+}
+
+fn field_of(alloc: Global, environment: &Environment, local: &Local) -> Result<Field, Memory>
+    ensures { IfOk result (λ field. field_seen field ≡ record { name = local.now.name.text; kind = kind_of (seen environment.now) local.now.declared }) }
+{
+    let kind = environment.kind_of(&local.declared)?;
+    let name = copy(alloc, local.name.text.as_slice())?;
+    Ok(Field { name, kind })
+}
+
+// The fields of a struct with their kinds.
+fn fields_of(
+    alloc: Global,
+    environment: &Environment,
+    locals: &[Local],
+) -> Result<Items<Field>, Memory>
+    ensures { IfOk result (λ fields. map field_seen fields ≡ fields_declared (seen environment.now) locals.now) }
+{
+    let mut fields = Items::new(alloc);
+    for local in locals {
+        let field = field_of(alloc, environment, local)?;
+        push_field(&mut fields, field)?;
+    }
+    Ok(fields)
+}
+
+fn known_cells(environment: &Environment, kind: Option<Kind>) -> u64
+    ensures { result ≡ known_cells (seen environment.now) kind }
+{
+    match kind {
+        None => 0,
+        Some(kind) => environment.cells_of(kind),
+    }
+}
+
+fn add_cells(a: u64, b: u64) -> Result<u64, Memory>
+    ensures { IfOk result (λ sum. sum ≡ a + b) }
+{
+    match a.checked_add(b) {
+        None => Err(Memory),
+        Some(sum) => Ok(sum),
+    }
+}
+
+// The cells of fields.
+fn cells_of_fields(environment: &Environment, fields: &[Field]) -> Result<u64, Memory>
+    ensures { IfOk result (λ cells. cells ≡ fields_cells (seen environment.now) (map field_seen fields.now)) }
+{
+    let mut cells = 0;
+    for field in fields {
+        cells = add_cells(cells, known_cells(environment, field.kind))?;
+    }
+    Ok(cells)
+}
+
+// The struct with a number gets fields and cells.
+#[tactic(auto, using(crate::proofs::TableLemmas::fields_nowhere, crate::proofs::TableLemmas::fields_there))]
+fn set_fields(
+    alloc: Global,
+    structs: &mut Items<Structure>,
+    number: usize,
+    fields: Items<Field>,
+    cells: u64,
+) -> Result<(), Memory>
+    ensures { OnOk result (map structure_seen structs.new ≡ with_fields (map structure_seen structs.old) number (map field_seen fields) cells) }
+{
+    let Some(structure) = structs.get(number) else {
+        return Ok(());
+    };
+    let name = copy(alloc, structure.name.as_slice())?;
+    structs.set(
+        number,
+        Structure {
+            name,
+            fields: Some(fields),
+            cells,
+        },
+    );
+    Ok(())
+}
+
+/// `struct _X { fields };`: the struct with a number is defined.
+pub fn define(
+    alloc: Global,
+    environment: &mut Environment,
+    number: usize,
+    locals: &[Local],
+) -> Result<(), Memory>
+    ensures { OnOk result (seen environment.new ≡ define_struct (seen environment.old) (Some number) locals.now) }
+{
+    let fields = fields_of(alloc, environment, locals)?;
+    let cells = cells_of_fields(environment, fields.as_slice())?;
+    set_fields(alloc, &mut environment.structs, number, fields, cells)
+}
+
+// 2. Signatures
+
+fn same_known(a: Option<Kind>, b: Option<Kind>) -> bool
+    ensures { result ≡ same_known a b }
+{
+    match (a, b) {
+        (Some(a), Some(b)) => same(a, b),
+        (None, None) => true,
+        _ => false,
+    }
+}
+
+fn same_list(a: &[Option<Kind>], b: &[Option<Kind>]) -> bool
+    ensures { result ≡ same_list a.now b.now }
+{
+    let mut index = 0;
+    for kind in a {
+        let Some(other) = at(b, index) else {
+            return false;
+        };
+        if !same_known(*kind, *other) {
+            return false;
+        }
+        index += 1;
+    }
+    index == b.len()
+}
+
+fn same_takes(a: &Takes, b: &Takes) -> bool
+    ensures { result ≡ same_takes (takes_seen a.now) (takes_seen b.now) }
+{
+    same_known(a.result, b.result) && same_list(a.parameters.as_slice(), b.parameters.as_slice())
+}
+
+/// The number of the first signature that equals this one, or the next number.
+#[tactic(auto, using(crate::proofs::TableLemmas::signature_turn, crate::proofs::TableLemmas::signature_found))]
+pub fn signature_number(signatures: &[Takes], takes: &Takes) -> usize
+    ensures { result ≡ signature_number 0 (map takes_seen signatures.now) (takes_seen takes.now) }
+{
+    let mut number = 0;
+    for signature in signatures {
+        if same_takes(signature, takes) {
+            return number;
+        }
+        number += 1;
+    }
+    number
+}
+
+pub fn push_takes(signatures: &mut Items<Takes>, one: Takes) -> Result<(), Memory>
+    ensures { OnOk result (signatures.new ≡ signatures.old ++ one ∷ []) }
+{
+    match signatures.push(one) {
+        Ok(()) => Ok(()),
+        Err(_) => Err(Memory),
+    }
+}
+
+// A signature that has that number is kept, if it is new.
+#[tactic(auto, using(crate::proofs::TableLemmas::signature_added, crate::proofs::TableLemmas::signature_kept))]
+fn keep_signature(environment: &mut Environment, number: usize, takes: Takes) -> Result<(), Memory>
+    ensures { OnOk result (number ≡ number_of (seen environment.old) (takes_seen takes) → seen environment.new ≡ with_signature (seen environment.old) (takes_seen takes)) }
+{
+    if number < environment.signatures.len() {
+        return Ok(());
+    }
+    push_takes(&mut environment.signatures, takes)
+}
+
+/// The number of a signature, which may be new.
+pub fn add_signature(environment: &mut Environment, takes: Takes) -> Result<u32, Memory>
+    ensures number { IfOk result (λ number. number ≡ number_of (seen environment.old) (takes_seen takes)) }
+    ensures names { OnOk result (seen environment.new ≡ with_signature (seen environment.old) (takes_seen takes)) }
+{
+    let number = signature_number(environment.signatures.as_slice(), &takes);
+    keep_signature(environment, number, takes)?;
+    number_in(number)
+}
+
+pub fn push_kind(kinds: &mut Items<Option<Kind>>, one: Option<Kind>) -> Result<(), Memory>
+    ensures { OnOk result (kinds.new ≡ kinds.old ++ one ∷ []) }
+{
+    match kinds.push(one) {
+        Ok(()) => Ok(()),
+        Err(_) => Err(Memory),
+    }
+}
+
+fn parameter_kinds(
+    alloc: Global,
+    environment: &Environment,
+    parameters: &[Parameter],
+) -> Result<Items<Option<Kind>>, Memory>
+    ensures { IfOk result (λ kinds. kinds ≡ parameter_kinds (seen environment.now) parameters.now) }
+{
+    let mut kinds = Items::new(alloc);
+    for parameter in parameters {
+        let kind = environment.kind_of(&parameter.declared)?;
+        push_kind(&mut kinds, kind)?;
+    }
+    Ok(kinds)
+}
+
+/// What a function takes and gives.
+pub fn takes_of(
+    alloc: Global,
+    environment: &Environment,
+    signature: &Signature,
+) -> Result<Takes, Memory>
+    ensures { IfOk result (λ takes. takes_seen takes ≡ takes_of (seen environment.now) signature.now) }
+{
+    let result = environment.kind_of(&signature.result)?;
+    let parameters = parameter_kinds(alloc, environment, signature.parameters.as_slice())?;
+    Ok(Takes { result, parameters })
+}
