@@ -1,0 +1,10 @@
+pub mod Left
+pub mod WordLaws
+pub mod ByteLaws
+pub mod FileLaws
+pub mod RoleLaws
+pub mod SignLaws
+pub mod SetLaws
+pub mod MadeLaws
+pub mod TakeLaws
+pub mod AcceptLaws

@@ -1,0 +1,12 @@
+pub mod Rest
+pub mod Fronts
+pub mod Ahead
+pub mod State
+pub mod Files
+pub mod Sets
+pub mod Scopes
+pub mod Places
+pub mod Reading
+pub mod Gives
+pub mod Made
+pub mod Steps
