@@ -1,0 +1,10 @@
+pub mod Rows
+pub mod Asks
+pub mod Pieces
+pub mod Bodies
+pub mod Statements
+pub mod Items
+pub mod Ordered
+pub mod Parsing
+pub mod Statics
+pub mod Values
