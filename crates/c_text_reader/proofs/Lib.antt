@@ -1,0 +1,6 @@
+mod Answering
+mod Early
+mod KnownItems
+mod KnownStatements
+mod KnownValues
+mod Order
