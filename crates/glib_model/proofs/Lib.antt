@@ -1,0 +1,12 @@
+pub mod ArgumentLemmas
+pub mod BlockLemmas
+pub mod ErrorLemmas
+pub mod ErrorRows
+pub mod Filling
+pub mod FoundLemmas
+pub mod LineLemmas
+pub mod MakingLemmas
+pub mod MarkLemmas
+pub mod Rows
+pub mod Shapes
+pub mod Telling
