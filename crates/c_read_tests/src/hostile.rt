@@ -14,7 +14,7 @@ fn repeated(alloc: Global, front: &str, piece: &str, end: &str) -> Result<Vec<u8
     let mut text = Vec::new(alloc);
     text.extend_from_slice(FRONT.as_bytes())?;
     text.extend_from_slice(front.as_bytes())?;
-    for _ in 0..MANY / piece.len() {
+    for _ in 0..MANY.checked_div(piece.len()).unwrap_or(0) {
         text.extend_from_slice(piece.as_bytes())?;
     }
     text.extend_from_slice(end.as_bytes())?;
@@ -38,7 +38,7 @@ fn brackets_without_end(rt: HostRuntime) -> Result<(), Fail> {
         let text = repeated(alloc, start, piece, "")?;
         assert_eq!(rt;
             stop(alloc, &text),
-            Stopped::Syntax(front + place),
+            Stopped::Syntax(front.saturating_add(place)),
             "{piece}"
         );
     }

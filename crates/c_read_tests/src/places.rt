@@ -109,7 +109,7 @@ fn brackets(rt: HostRuntime) -> Result<(), Fail> {
         match expected {
             None => assert_eq!(rt; found, Answered::Accepted),
             Some(behind) => {
-                let place = front.len() as u64 + behind;
+                let place = (front.len() as u64).saturating_add(behind);
                 assert_eq!(rt; found, Answered::Refused(2, place));
             }
         }

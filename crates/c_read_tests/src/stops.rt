@@ -37,8 +37,8 @@ fn stop_in_main(alloc: Global, statements: &str) -> Result<Stopped, Fail> {
     let text = format!(in alloc; "{FRONT}{statements} return 0; }}")?;
     let front = FRONT.len() as u32;
     Ok(match stop(alloc, text.as_bytes()) {
-        Stopped::Token(at) => Stopped::Token(at - front),
-        Stopped::Syntax(at) => Stopped::Syntax(at - front),
+        Stopped::Token(at) => Stopped::Token(at.saturating_sub(front)),
+        Stopped::Syntax(at) => Stopped::Syntax(at.saturating_sub(front)),
         other => other,
     })
 }
