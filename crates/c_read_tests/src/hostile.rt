@@ -1,4 +1,4 @@
-// Texts of a megabyte that go on and on.
+// Texts of eight kibibytes that go on and on; `tests/hostile` has larger ones.
 
 use crate::stops::{Stopped, stop};
 use std::alloc::Global;
