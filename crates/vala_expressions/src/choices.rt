@@ -31,7 +31,7 @@ impl<F: Fn(Global, &mut Cursor<'_>, u32, Ask) -> Result<Reply, Stop>> Grammar<F>
         ensures tree { Gets (vala_reader (part.ChoiceTail test) level (rest cursor.old)) result (rest cursor.new) }
         ensures kept { stop cursor.new ≡ stop cursor.old }
     {
-        let Chain { value, last } = test;
+        let (value, last) = test.into_parts();
         match last {
             Last::Unmarked => Ok(value),
             Last::Alone => Ok(value),

@@ -111,7 +111,7 @@ impl<F: Fn(Global, &mut Cursor<'_>, u32, Ask) -> Result<Reply, Stop>> Grammar<F>
         if !cursor.is_among(&[Sort::Assign, Sort::Update]) {
             return Ok(Opening::Names(name));
         }
-        Ok(Opening::Value(self.assign_tail(cursor, level, joined.value)?))
+        Ok(Opening::Value(self.assign_tail(cursor, level, joined.into_value())?))
     }
 
     /// Names, and what follows them as an operand or `[]`.

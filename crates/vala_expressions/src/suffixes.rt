@@ -30,7 +30,7 @@ impl<F: Fn(Global, &mut Cursor<'_>, u32, Ask) -> Result<Reply, Stop>> Grammar<F>
         let mut operand = first;
         let mut level = level;
         'links: while tiers::link_next(cursor, &operand.last) {
-            operand = self.link(cursor, level, operand.value)?;
+            operand = self.link(cursor, level, operand.into_value())?;
             level += 1;
         }
         Ok(operand)

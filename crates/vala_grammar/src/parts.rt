@@ -1,4 +1,7 @@
-// What is read on the way to a tree. The trees in it are boxed, so that it is small to hand on and to drop.
+// What is read on the way to a tree. The trees in it are boxed, so that it is small to hand on. How it is dropped is written
+// out, so that crates above take it as a call.
+
+ghost use Rattle.std.specs.Prelude.{◌≡◌};
 
 use sqlite_items::{Boxed, Items};
 use vala_tree::{Argument, Arm, Expr, ForStart, Local, NameTree, Stmt, TypeTree};
@@ -22,10 +25,37 @@ pub enum Last {
 }
 
 /// An operand, or operands with operators between them.
-#[derive(Drop)]
 pub struct Chain {
     pub value: Boxed<Expr>,
     pub last: Last,
+}
+
+impl Drop for Chain {
+    fn drop(self) {
+        let Chain { value, last } = self;
+        drop(value);
+        drop(last);
+    }
+}
+
+impl Chain {
+    /// What it stands for alone.
+    pub fn into_value(self) -> Boxed<Expr>
+        ensures { result ≡ self.value }
+    {
+        let Chain { value, last } = self;
+        drop(last);
+        value
+    }
+
+    /// What it stands for, and what it ends with.
+    pub fn into_parts(self) -> (Boxed<Expr>, Last)
+        ensures value { result.0 ≡ self.value }
+        ensures last { result.1 ≡ self.last }
+    {
+        let Chain { value, last } = self;
+        (value, last)
+    }
 }
 
 /// The name of a type, and whether `[]` follows it, by the place of `]`.
@@ -59,10 +89,28 @@ pub enum Bracketed {
 }
 
 /// The type behind `is` or `as`, and what it ends with: a mark or none, or a `?` and an expression.
-#[derive(Drop)]
 pub struct Tested {
     pub tree: TypeTree,
     pub last: Last,
+}
+
+impl Drop for Tested {
+    fn drop(self) {
+        let Tested { tree, last } = self;
+        drop(tree);
+        drop(last);
+    }
+}
+
+impl Tested {
+    /// The type, and what it ends with.
+    pub fn into_parts(self) -> (TypeTree, Last)
+        ensures tree { result.0 ≡ self.tree }
+        ensures last { result.1 ≡ self.last }
+    {
+        let Tested { tree, last } = self;
+        (tree, last)
+    }
 }
 
 /// What a statement or a `for` begins with that no word tells: a declaration with its place, or an expression.
@@ -73,15 +121,36 @@ pub enum Beginning {
 }
 
 /// A statement, and whether an `else` could go on with it.
-#[derive(Drop)]
 pub struct Ended {
     pub statement: Boxed<Stmt>,
     pub is_open: bool,
 }
 
+impl Drop for Ended {
+    fn drop(self) {
+        let Ended {
+            statement,
+            is_open: _,
+        } = self;
+        drop(statement);
+    }
+}
+
+impl Ended {
+    /// The statement alone.
+    pub fn into_statement(self) -> Boxed<Stmt>
+        ensures { result ≡ self.statement }
+    {
+        let Ended {
+            statement,
+            is_open: _,
+        } = self;
+        statement
+    }
+}
+
 /// What stands behind an `if`, or behind its `else`: the arms in their order and what stands behind a last `else`, whether a
 /// further `else` could go on with it, and the place of its last statement.
-#[derive(Drop)]
 pub struct Branches {
     pub arms: Items<Arm>,
     pub no: Option<Boxed<Stmt>>,
@@ -89,26 +158,107 @@ pub struct Branches {
     pub end: Span,
 }
 
+impl Drop for Branches {
+    fn drop(self) {
+        let Branches {
+            arms,
+            no,
+            is_open: _,
+            end: _,
+        } = self;
+        drop(arms);
+        drop(no);
+    }
+}
+
+impl Branches {
+    /// The arms, and what stands behind a last `else`.
+    pub fn into_parts(self) -> (Items<Arm>, Option<Boxed<Stmt>>)
+        ensures arms { result.0 ≡ self.arms }
+        ensures no { result.1 ≡ self.no }
+    {
+        let Branches {
+            arms,
+            no,
+            is_open: _,
+            end: _,
+        } = self;
+        (arms, no)
+    }
+}
+
 /// What stands in the brackets of a `for`.
-#[derive(Drop)]
 pub struct ForHead {
     pub start: Boxed<ForStart>,
     pub test: Option<Boxed<Expr>>,
     pub steps: Items<Expr>,
 }
 
+impl Drop for ForHead {
+    fn drop(self) {
+        let ForHead { start, test, steps } = self;
+        drop(start);
+        drop(test);
+        drop(steps);
+    }
+}
+
+impl ForHead {
+    /// Its parts in their order.
+    pub fn into_parts(self) -> (Boxed<ForStart>, Option<Boxed<Expr>>, Items<Expr>)
+        ensures start { result.0 ≡ self.start }
+        ensures test { result.1 ≡ self.test }
+        ensures steps { result.2 ≡ self.steps }
+    {
+        let ForHead { start, test, steps } = self;
+        (start, test, steps)
+    }
+}
+
 /// Arguments, and the place of the bracket behind them.
-#[derive(Drop)]
 pub struct Arguments {
     pub list: Items<Argument>,
     pub close: Span,
 }
 
+impl Drop for Arguments {
+    fn drop(self) {
+        let Arguments { list, close: _ } = self;
+        drop(list);
+    }
+}
+
+impl Arguments {
+    /// The arguments alone.
+    pub fn into_list(self) -> Items<Argument>
+        ensures { result ≡ self.list }
+    {
+        let Arguments { list, close: _ } = self;
+        list
+    }
+}
+
 /// Expressions, and the place of the bracket or brace behind them.
-#[derive(Drop)]
 pub struct Listed {
     pub list: Items<Expr>,
     pub close: Span,
+}
+
+impl Drop for Listed {
+    fn drop(self) {
+        let Listed { list, close: _ } = self;
+        drop(list);
+    }
+}
+
+impl Listed {
+    /// The expressions alone.
+    pub fn into_list(self) -> Items<Expr>
+        ensures { result ≡ self.list }
+    {
+        let Listed { list, close: _ } = self;
+        list
+    }
 }
 
 /// Which signs may begin an operand: all, those behind a cast, or those and `-`.

@@ -29,7 +29,7 @@ fn prefix_of(kind: TokenKind) -> PrefixOperator
 pub fn prefixed(alloc: Global, token: Token<'_>, chain: Chain) -> Result<Chain, AllocError>
     ensures { IfOk result (λ c. c ≡ tree.prefixed (seen token.entry) chain) }
 {
-    let Chain { value, last } = chain;
+    let (value, last) = chain.into_parts();
     let span = join(token.span, value.get().span());
     let operation = Operation::Prefix(prefix_of(token.kind), value);
     let value = Boxed::new(alloc, Expr::Operation(operation, span))?;
@@ -40,7 +40,7 @@ pub fn prefixed(alloc: Global, token: Token<'_>, chain: Chain) -> Result<Chain, 
 pub fn moved(alloc: Global, opening: Token<'_>, chain: Chain) -> Result<Chain, AllocError>
     ensures { IfOk result (λ c. c ≡ tree.moved (seen opening.entry) chain) }
 {
-    let Chain { value, last } = chain;
+    let (value, last) = chain.into_parts();
     let span = join(opening.span, value.get().span());
     let operation = Operation::Prefix(PrefixOperator::Owned, value);
     let value = Boxed::new(alloc, Expr::Operation(operation, span))?;
@@ -55,7 +55,7 @@ pub fn cast(
 ) -> Result<Chain, AllocError>
     ensures { IfOk result (λ c. c ≡ tree.cast (seen opening.entry) target chain) }
 {
-    let Chain { value, last } = chain;
+    let (value, last) = chain.into_parts();
     let span = join(opening.span, value.get().span());
     let operation = Operation::Cast(target, value);
     let value = Boxed::new(alloc, Expr::Operation(operation, span))?;
@@ -88,13 +88,6 @@ fn binary_of(kind: TokenKind) -> BinaryOperator
     }
 }
 
-/// What the chain stands for, without what it ends with, which no caller then holds where memory may run out.
-fn value_of(chain: Chain) -> Boxed<Expr>
-    ensures { result ≡ chain.value }
-{
-    chain.value
-}
-
 /// An operator and its operands.
 fn binary(
     alloc: Global,
@@ -117,8 +110,8 @@ pub fn joined(
 ) -> Result<Chain, AllocError>
     ensures { IfOk result (λ c. c ≡ tree.joined left (seen token.entry) right) }
 {
-    let Chain { value, last } = right;
-    let value = binary(alloc, value_of(left), token, value)?;
+    let (value, last) = right.into_parts();
+    let value = binary(alloc, left.into_value(), token, value)?;
     Ok(Chain { value, last })
 }
 
@@ -139,8 +132,8 @@ pub fn tested(
 ) -> Result<Chain, AllocError>
     ensures { IfOk result (λ c. c ≡ tree.tested left (seen token.entry) right) }
 {
-    let value = value_of(left);
-    let Tested { tree, last } = right;
+    let value = left.into_value();
+    let (tree, last) = right.into_parts();
     let span = join(value.get().span(), tree.span);
     let operation = Operation::Typed(type_operator(token.kind), value, tree);
     let value = Boxed::new(alloc, Expr::Operation(operation, span))?;

@@ -126,7 +126,7 @@ pub fn new_object(
     ensures { IfOk result (λ e. e ≡ tree.new_object (seen token.entry) name arguments) }
 {
     let span = join(token.span, arguments.close);
-    let primary = Primary::New(name, arguments.list);
+    let primary = Primary::New(name, arguments.into_list());
     Boxed::new(alloc, Expr::Primary(primary, span))
 }
 
@@ -163,7 +163,7 @@ pub fn new_array_of(
     let array = NewArray {
         element: element(name, mark),
         length: size,
-        list: Some(items.list),
+        list: Some(items.into_list()),
     };
     Boxed::new(alloc, Expr::Primary(Primary::NewArray(array), span))
 }
@@ -177,7 +177,7 @@ pub fn list_in_braces(
     ensures { IfOk result (λ e. e ≡ tree.list_in_braces (seen token.entry) items) }
 {
     let span = join(token.span, items.close);
-    Boxed::new(alloc, Expr::Primary(Primary::List(items.list), span))
+    Boxed::new(alloc, Expr::Primary(Primary::List(items.into_list()), span))
 }
 
 pub fn call(
@@ -190,7 +190,7 @@ pub fn call(
     let span = join(left.get().span(), arguments.close);
     Boxed::new(
         alloc,
-        Expr::Postfix(Postfix::Call(left, arguments.list), span),
+        Expr::Postfix(Postfix::Call(left, arguments.into_list()), span),
     )
 }
 

@@ -96,7 +96,7 @@ pub fn arm(test: Boxed<Expr>, body: Ended) -> Arm
 {
     Arm {
         test: test.into_inner(),
-        body: body.statement.into_inner(),
+        body: body.into_statement().into_inner(),
     }
 }
 
@@ -104,15 +104,11 @@ pub fn if_of(alloc: Global, token: Token<'_>, branches: Branches) -> Result<Ende
     ensures { IfOk result (λ a. a ≡ tree.if_of (seen token.entry) branches) }
 {
     let span = join(token.span, branches.end);
-    let selection = Selection::If(If {
-        arms: branches.arms,
-        no: branches.no,
-    });
+    let is_open = branches.is_open;
+    let (arms, no) = branches.into_parts();
+    let selection = Selection::If(If { arms, no });
     let statement = Boxed::new(alloc, Stmt::Selection(selection, span))?;
-    Ok(Ended {
-        statement,
-        is_open: branches.is_open,
-    })
+    Ok(Ended { statement, is_open })
 }
 
 pub fn while_loop(
@@ -124,12 +120,10 @@ pub fn while_loop(
     ensures { IfOk result (λ a. a ≡ tree.while_loop (seen token.entry) test body) }
 {
     let span = join(token.span, body.statement.get().span());
-    let iteration = Iteration::While(test.into_inner(), body.statement);
+    let is_open = body.is_open;
+    let iteration = Iteration::While(test.into_inner(), body.into_statement());
     let statement = Boxed::new(alloc, Stmt::Iteration(iteration, span))?;
-    Ok(Ended {
-        statement,
-        is_open: body.is_open,
-    })
+    Ok(Ended { statement, is_open })
 }
 
 pub fn do_loop(
@@ -141,7 +135,7 @@ pub fn do_loop(
 ) -> Result<Boxed<Stmt>, AllocError>
     ensures { IfOk result (λ a. a ≡ tree.do_loop (seen token.entry) body test (seen close.entry)) }
 {
-    let iteration = Iteration::Do(body.statement, test.into_inner());
+    let iteration = Iteration::Do(body.into_statement(), test.into_inner());
     let span = join(token.span, close.span);
     Boxed::new(alloc, Stmt::Iteration(iteration, span))
 }
@@ -155,17 +149,16 @@ pub fn for_loop(
     ensures { IfOk result (λ a. a ≡ tree.for_loop (seen token.entry) head body) }
 {
     let span = join(token.span, body.statement.get().span());
+    let is_open = body.is_open;
+    let (start, test, steps) = head.into_parts();
     let iteration = Iteration::For(For {
-        start: head.start.into_inner(),
-        test: head.test,
-        steps: head.steps,
-        body: body.statement,
+        start: start.into_inner(),
+        test,
+        steps,
+        body: body.into_statement(),
     });
     let statement = Boxed::new(alloc, Stmt::Iteration(iteration, span))?;
-    Ok(Ended {
-        statement,
-        is_open: body.is_open,
-    })
+    Ok(Ended { statement, is_open })
 }
 
 pub fn foreach_loop(
@@ -179,18 +172,16 @@ pub fn foreach_loop(
     ensures { IfOk result (λ a. a ≡ tree.foreach_loop (seen token.entry) declared (seen name.entry) over body) }
 {
     let span = join(token.span, body.statement.get().span());
+    let is_open = body.is_open;
     let name = identifier(alloc, name)?;
     let iteration = Iteration::Foreach(Foreach {
         declared,
         name,
         over: over.into_inner(),
-        body: body.statement,
+        body: body.into_statement(),
     });
     let statement = Boxed::new(alloc, Stmt::Iteration(iteration, span))?;
-    Ok(Ended {
-        statement,
-        is_open: body.is_open,
-    })
+    Ok(Ended { statement, is_open })
 }
 
 pub fn switch(

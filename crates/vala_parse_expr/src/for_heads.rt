@@ -178,16 +178,13 @@ impl<F: Fn(Global, &mut Cursor<'_>, u32, Ask) -> Result<Reply, Stop>> Statements
         ensures tree { Gets (vala_reader (part.MoreSteps head.start head.test head.steps) level (rest cursor.old)) result (rest cursor.new) }
         ensures kept { stop cursor.new ≡ stop cursor.old }
     {
-        let mut steps = head.steps;
+        let (start, test, steps) = head.into_parts();
+        let mut steps = steps;
         'items: while cursor.is(Sort::Comma) {
             cursor.expect(Sort::Comma, level)?;
             steps.push(self.code.deep_whole(cursor, level)?.into_inner())?;
         }
         cursor.expect(Sort::CloseParen, level)?;
-        Ok(ForHead {
-            start: head.start,
-            test: head.test,
-            steps,
-        })
+        Ok(ForHead { start, test, steps })
     }
 }

@@ -19,10 +19,26 @@ use vala_nodes::statements::arm;
 use vala_tree::{Arm, Expr};
 
 /// What follows `if`: its condition and its body.
-#[derive(Drop)]
 pub struct Head {
     pub test: Boxed<Expr>,
     pub yes: Ended,
+}
+
+impl Drop for Head {
+    fn drop(self) {
+        let Head { test, yes } = self;
+        drop(test);
+        drop(yes);
+    }
+}
+
+impl Head {
+    fn into_arm(self) -> Arm
+        ensures { result ≡ tree.arm self.test self.yes }
+    {
+        let Head { test, yes } = self;
+        arm(test, yes)
+    }
 }
 
 /// What follows `else`.
@@ -32,12 +48,6 @@ pub enum Behind {
     Last(Ended),
 }
 
-fn arm_of(head: Head) -> Arm
-    ensures { result ≡ tree.arm head.test head.yes }
-{
-    arm(head.test, head.yes)
-}
-
 /// Arms, the last of which is this one.
 #[tactic(auto, unfolding(crate::specs::Statements::in_front))]
 fn with_arm(arms: Items<Arm>, head: Head) -> Result<Branches, AllocError>
@@ -45,7 +55,7 @@ fn with_arm(arms: Items<Arm>, head: Head) -> Result<Branches, AllocError>
 {
     let end = head.yes.statement.get().span();
     let mut arms = arms;
-    arms.push(arm_of(head))?;
+    arms.push(head.into_arm())?;
     Ok(Branches {
         arms,
         no: None,
@@ -60,10 +70,11 @@ fn with_else(arms: Items<Arm>, last: Ended) -> Branches
     ensures { result ≡ in_front arms (tree.last_branch last) }
 {
     let end = last.statement.get().span();
+    let is_open = last.is_open;
     Branches {
         arms,
-        no: Some(last.statement),
-        is_open: last.is_open,
+        no: Some(last.into_statement()),
+        is_open,
         end,
     }
 }
@@ -111,7 +122,7 @@ impl<F: Fn(Global, &mut Cursor<'_>, u32, Ask) -> Result<Reply, Stop>> Statements
         let mut head = self.if_head(cursor, level)?;
         'heads: while !head.yes.is_open && cursor.is(Sort::Else) {
             cursor.expect(Sort::Else, level)?;
-            arms.push(arm_of(head))?;
+            arms.push(head.into_arm())?;
             match self.behind_else(cursor, level)? {
                 Behind::Chained(next) => head = next,
                 Behind::Last(last) => return Ok(with_else(arms, last)),

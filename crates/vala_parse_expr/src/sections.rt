@@ -21,7 +21,6 @@ use vala_nodes::{lists, statements as nodes};
 use vala_tree::{Expr, Label, Section, Stmt};
 
 /// The parts of a `switch` up to the last, and that one so far.
-#[derive(Drop)]
 pub struct Parts {
     pub done: Items<Section>,
     pub first: Boxed<Label>,
@@ -29,36 +28,54 @@ pub struct Parts {
     pub statements: Items<Stmt>,
 }
 
-/// The parts with the last one.
-fn all(alloc: Global, parts: Parts) -> Result<Items<Section>, AllocError>
-    ensures { IfOk result (λ a. a ≡ parts.done ++ tree.section parts.first parts.others parts.statements ∷ []) }
-{
-    let mut done = parts.done;
-    done.push(lists::section(alloc, parts.first, parts.others, parts.statements)?)?;
-    Ok(done)
+impl Drop for Parts {
+    fn drop(self) {
+        let Parts {
+            done,
+            first,
+            others,
+            statements,
+        } = self;
+        drop(done);
+        drop(first);
+        drop(others);
+        drop(statements);
+    }
 }
 
-/// A label behind statements begins a part, and behind a label it is one more.
-#[tactic(auto, using(crate::proofs::StatementLaws::with_label_laws))]
-fn labelled(alloc: Global, parts: Parts, label: Boxed<Label>) -> Result<Parts, AllocError>
-    ensures { IfOk result (λ a. a ≡ with_label parts label) }
-{
-    if parts.statements.is_empty() {
-        let mut others = parts.others;
-        others.push(label.into_inner())?;
-        return Ok(Parts {
-            done: parts.done,
-            first: parts.first,
+impl Parts {
+    /// The parts with the last one.
+    fn all(self, alloc: Global) -> Result<Items<Section>, AllocError>
+        ensures { IfOk result (λ a. a ≡ self.done ++ tree.section self.first self.others self.statements ∷ []) }
+    {
+        let Parts {
+            done,
+            first,
             others,
-            statements: parts.statements,
-        });
+            statements,
+        } = self;
+        let mut done = done;
+        done.push(lists::section(alloc, first, others, statements)?)?;
+        Ok(done)
     }
-    Ok(Parts {
-        done: all(alloc, parts)?,
-        first: label,
-        others: Items::new(alloc),
-        statements: Items::new(alloc),
-    })
+
+    /// A label behind statements begins a part, and behind a label it is one more.
+    #[tactic(auto, using(crate::proofs::StatementLaws::with_label_laws))]
+    fn labelled(self, alloc: Global, label: Boxed<Label>) -> Result<Parts, AllocError>
+        ensures { IfOk result (λ a. a ≡ with_label self label) }
+    {
+        if self.statements.is_empty() {
+            let mut parts = self;
+            parts.others.push(label.into_inner())?;
+            return Ok(parts);
+        }
+        Ok(Parts {
+            done: self.all(alloc)?,
+            first: label,
+            others: Items::new(alloc),
+            statements: Items::new(alloc),
+        })
+    }
 }
 
 impl<F: Fn(Global, &mut Cursor<'_>, u32, Ask) -> Result<Reply, Stop>> Statements<F> {
@@ -132,14 +149,14 @@ impl<F: Fn(Global, &mut Cursor<'_>, u32, Ask) -> Result<Reply, Stop>> Statements
         'parts: while !cursor.is(Sort::CloseBrace) {
             if cursor.is_among(&[Sort::Case, Sort::Default]) {
                 let next = self.any_label(cursor, level)?;
-                parts = labelled(self.code.alloc, parts, next)?;
+                parts = parts.labelled(self.code.alloc, next)?;
             } else {
-                let next = self.code.deep_any_stmt(cursor, level)?.statement;
+                let next = self.code.deep_any_stmt(cursor, level)?.into_statement();
                 parts.statements.push(next.into_inner())?;
             }
         }
         let close = cursor.expect(Sort::CloseBrace, level)?;
-        let sections = all(self.code.alloc, parts)?;
+        let sections = parts.all(self.code.alloc)?;
         Ok(nodes::switch(self.code.alloc, token, value, sections, close)?)
     }
 }

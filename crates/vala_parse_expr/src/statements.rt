@@ -53,7 +53,7 @@ impl<F: Fn(Global, &mut Cursor<'_>, u32, Ask) -> Result<Reply, Stop>> Statements
         let mut list = Items::new(self.code.alloc);
         'statements: while !cursor.is(Sort::CloseBrace) {
             let next = self.code.deep_any_stmt(cursor, level)?;
-            list.push(next.statement.into_inner())?;
+            list.push(next.into_statement().into_inner())?;
         }
         let close = cursor.expect(Sort::CloseBrace, level)?;
         Ok(nodes::block(self.code.alloc, opening, list, close)?)
