@@ -3,8 +3,6 @@
 
 mod laws;
 mod rules;
-#[cfg(test)]
-mod tests;
 
 pub use laws::earlier_is_an_order;
 pub use rules::{Refusal, Rule, earlier, rule_name, rule_text};

@@ -3,8 +3,6 @@
 
 mod bytes;
 mod escapes;
-#[cfg(test)]
-mod tests;
 mod texts;
 mod words;
 

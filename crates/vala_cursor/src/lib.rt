@@ -4,8 +4,6 @@
 mod cursor;
 mod faults;
 mod stop;
-#[cfg(test)]
-mod tests;
 
 pub use cursor::{Cursor, is_one_of, same_sort};
 pub use stop::{Flaw, Stop};

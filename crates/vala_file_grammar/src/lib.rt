@@ -3,8 +3,6 @@
 
 mod kind;
 mod laws;
-#[cfg(test)]
-mod tests;
 
 pub use kind::{Special, is_c_identifier, letters, same_letters, special_of};
 pub use laws::{

@@ -4,8 +4,6 @@
 mod laws;
 mod parts;
 mod sort;
-#[cfg(test)]
-mod tests;
 
 pub use laws::{texts_are_read_exactly, texts_have_one_tree};
 pub use parts::{

@@ -10,8 +10,6 @@ mod lexer;
 mod numbers;
 mod pieces;
 mod signs;
-#[cfg(test)]
-mod tests;
 mod texts;
 mod token;
 mod words;

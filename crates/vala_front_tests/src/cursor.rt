@@ -1,8 +1,7 @@
 // Tokens that are taken one by one, and the limits before them.
 
-use crate::cursor::Cursor;
-use crate::stop::{Flaw, Stop};
 use std::test::Fail;
+use vala_cursor::{Cursor, Flaw, Stop};
 use vala_grammar::Sort;
 use vala_lexer::{Lexer, Token};
 

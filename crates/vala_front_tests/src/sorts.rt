@@ -1,8 +1,7 @@
 // The sorts of some tokens.
 
-use crate::laws::{texts_are_read_exactly, texts_have_one_tree};
-use crate::sort::{Sort, sort_of};
 use std::test::Fail;
+use vala_grammar::{Sort, sort_of, texts_are_read_exactly, texts_have_one_tree};
 use vala_lexer::TokenKind;
 
 #[test]

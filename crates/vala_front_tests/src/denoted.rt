@@ -1,8 +1,7 @@
 // Texts and words, and the bytes that they denote.
 
-use crate::texts::text_value;
-use crate::words::word;
 use std::test::Fail;
+use text_values::{text_value, word};
 
 const TEXTS: &[(&[u8], &[u8])] = &[
     // No text between the quotes, and fewer quotes than a text has.

@@ -1,10 +1,9 @@
 // The tokens of small texts, and what is refused.
 
-use crate::cursor::Lexer;
-use crate::token::{IntegerType, Token, TokenKind};
 use static_rules::rule_name;
 use std::alloc::Global;
 use std::test::Fail;
+use vala_lexer::{IntegerType, Lexer, Token, TokenKind};
 
 fn type_name(integer_type: IntegerType) -> &'static str {
     match integer_type {

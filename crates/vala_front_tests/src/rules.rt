@@ -1,6 +1,6 @@
 // What is printed of some rules, and which of two refusals is the earlier one.
 
-use crate::rules::{Refusal, Rule, earlier, rule_name, rule_text};
+use static_rules::{Refusal, Rule, earlier, rule_name, rule_text};
 use std::test::Fail;
 use vg_base::Span;
 

@@ -1,11 +1,10 @@
 // What names and texts are, and the laws, which are there to be called.
 
-use crate::kind::{Special, is_c_identifier, letters, same_letters, special_of};
-use crate::laws::{
-    code_is_read_as_before, files_are_read_exactly, files_have_an_answer, files_have_one_answer,
-    files_have_one_tree,
-};
 use std::test::Fail;
+use vala_file_grammar::{
+    Special, code_is_read_as_before, files_are_read_exactly, files_have_an_answer,
+    files_have_one_answer, files_have_one_tree, is_c_identifier, letters, same_letters, special_of,
+};
 
 #[test]
 fn laws_do_nothing(rt: HostRuntime) -> Result<(), Fail> {
