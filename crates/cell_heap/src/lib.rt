@@ -6,8 +6,6 @@ mod fault;
 mod heap;
 mod laws;
 mod runs;
-#[cfg(test)]
-mod tests;
 mod texts;
 
 pub use fault::HeapFault;

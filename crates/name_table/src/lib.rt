@@ -5,8 +5,6 @@ mod entry;
 mod found;
 mod index;
 mod table;
-#[cfg(test)]
-mod tests;
 
 pub use found::Found;
 pub use table::NameTable;

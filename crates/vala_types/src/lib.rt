@@ -4,8 +4,6 @@
 mod fitting;
 mod laws;
 mod owners;
-#[cfg(test)]
-mod tests;
 mod ties;
 mod types;
 mod walk;

@@ -7,13 +7,9 @@ mod laws;
 mod mem_folder;
 mod mem_sink;
 mod memory;
-#[cfg(test)]
-mod memory_tests;
 mod outside;
 mod scanner;
 mod small;
-#[cfg(test)]
-mod small_tests;
 
 pub use calls::{includes, texts_between};
 pub use event::{

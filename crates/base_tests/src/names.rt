@@ -1,6 +1,6 @@
 // Scopes that hide and come back, and many names.
 
-use crate::table::NameTable;
+use name_table::NameTable;
 use std::alloc::Global;
 use std::test::Fail;
 

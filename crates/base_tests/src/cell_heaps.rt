@@ -1,8 +1,7 @@
 // Blocks that are made, stored to and freed.
 
-use crate::fault::HeapFault;
-use crate::heap::CellHeap;
 use c_meaning::Cell;
+use cell_heap::{CellHeap, HeapFault};
 use std::test::Fail;
 use vg_base::{Fault, UndefKind};
 

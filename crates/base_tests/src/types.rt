@@ -1,12 +1,12 @@
 // The two tables, by examples.
 
-use crate::fitting::fits;
-use crate::owners::{Change, owner_change};
-use crate::ties::{Bases, MOST_ROWS, Rows, Ties};
-use crate::types::{IntKind, Item, ItemShape, Shape, VType};
 use std::alloc::Global;
 use std::process::Abort;
 use std::test::Fail;
+use vala_types::{
+    Bases, Change, IntKind, Item, ItemShape, MOST_ROWS, Rows, Shape, Ties, VType, fits,
+    owner_change,
+};
 
 const OBJECT: Shape = Shape::Class(0);
 

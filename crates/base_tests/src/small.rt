@@ -1,10 +1,8 @@
 // What the reader of small texts takes and refuses.
 
-use crate::calls::{includes, texts_between};
-use crate::scanner::tokens;
-use crate::small::{Piece, push_spelling};
 use std::alloc::Global;
 use std::test::Fail;
+use vg_base::{Piece, includes, push_spelling, texts_between, tokens};
 
 const HEAD: [Piece; 5] = [
     Piece::Word("void"),

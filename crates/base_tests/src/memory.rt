@@ -1,11 +1,11 @@
 // Calls on the folders and sinks in memory.
 
-use crate::event::Memory;
-use crate::mem_folder::{GoodFolder, MemFolder};
-use crate::mem_sink::{GoodSink, MemSink};
-use crate::outside::{Folder, FolderFault, PutFault, Sink, SinkFault, put_all};
 use std::alloc::Global;
 use std::test::Fail;
+use vg_base::{
+    Folder, FolderFault, GoodFolder, GoodSink, MemFolder, MemSink, Memory, PutFault, Sink,
+    SinkFault, put_all,
+};
 
 /// Whether a call went well (`+`), found no file (`?`) or failed (`!`).
 fn mark<T: Drop>(answer: Result<T, FolderFault>) -> Result<char, Memory> {
