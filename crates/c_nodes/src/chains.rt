@@ -13,8 +13,9 @@ use std::alloc::{AllocError, Global};
 pub fn bracketed(alloc: Global, span: Span, value: Boxed<Expr>) -> Result<Boxed<Expr>, AllocError>
     ensures { IfOk result (λ e. e ≡ make.bracketed span value) }
 {
-    let Expr { shape, span: _ } = value.into_inner();
-    Boxed::new(alloc, Expr { shape, span })
+    let mut value = value.into_inner();
+    value.span = span;
+    Boxed::new(alloc, value)
 }
 
 /// An operator and the operand behind it.

@@ -7,14 +7,20 @@ use sqlite_items::{Boxed, Items};
 
 /// A value, and where it stands with the brackets around it. The brackets themselves are not kept.
 #[cycle(code)]
-#[derive(Drop)]
 pub struct Expr {
     pub shape: Shape,
     pub span: Span,
 }
 
+impl Drop for Expr {
+    #[cycle(dropped)]
+    fn drop(self) {
+        let Expr { shape, span: _ } = self;
+        drop(shape);
+    }
+}
+
 #[cycle(code)]
-#[derive(Drop)]
 pub enum Shape {
     Number(Number),
     /// By its byte.
@@ -42,9 +48,42 @@ pub enum Shape {
     Conditional(Items<Choice>, Boxed<Expr>),
 }
 
+impl Drop for Shape {
+    #[cycle(dropped)]
+    fn drop(self) {
+        match self {
+            Shape::Text(it) => drop(it),
+            Shape::Variable(it) => drop(it),
+            Shape::Function(it) => drop(it),
+            Shape::Member(it) => drop(it),
+            Shape::SizeOf(it, _) => drop(it),
+            Shape::Offset(first, second, _) => {
+                drop(first);
+                drop(second);
+            }
+            Shape::Prefix(first, second) => {
+                drop(first);
+                drop(second);
+            }
+            Shape::Postfix(first, second) => {
+                drop(first);
+                drop(second);
+            }
+            Shape::Chain(first, second) => {
+                drop(first);
+                drop(second);
+            }
+            Shape::Conditional(first, second) => {
+                drop(first);
+                drop(second);
+            }
+            Shape::Number(_) | Shape::Character(_) | Shape::Constant(_) => {}
+        }
+    }
+}
+
 /// What stands behind a value.
 #[cycle(code)]
-#[derive(Drop)]
 pub enum Suffix {
     /// `.f`
     Field(Name),
@@ -54,38 +93,81 @@ pub enum Suffix {
     Index(Expr, Span),
 }
 
+impl Drop for Suffix {
+    #[cycle(dropped)]
+    fn drop(self) {
+        match self {
+            Suffix::Field(it) => drop(it),
+            Suffix::Arrow(it) => drop(it),
+            Suffix::Index(it, _) => drop(it),
+        }
+    }
+}
+
 /// An operator and the operand behind it.
 #[cycle(code)]
-#[derive(Drop)]
 pub struct Link {
     pub operator: BinaryOperator,
     pub operand: Expr,
 }
 
+impl Drop for Link {
+    #[cycle(dropped)]
+    fn drop(self) {
+        let Link {
+            operator: _,
+            operand,
+        } = self;
+        drop(operand);
+    }
+}
+
 /// `test ? yes :`
 #[cycle(code)]
-#[derive(Drop)]
 pub struct Choice {
     pub test: Expr,
     pub yes: Expr,
 }
 
+impl Drop for Choice {
+    #[cycle(dropped)]
+    fn drop(self) {
+        let Choice { test, yes } = self;
+        drop(test);
+        drop(yes);
+    }
+}
+
 /// A declaration of a variable or a field.
-#[derive(Drop)]
 pub struct Local {
     pub declared: CType,
     pub name: Name,
 }
 
+impl Drop for Local {
+    fn drop(self) {
+        let Local { declared, name } = self;
+        drop(declared);
+        drop(name);
+    }
+}
+
 /// What is called: a value, or a function of the library, which is no value.
-#[derive(Drop)]
 pub enum Callee {
     Value(Expr),
     Row(Name),
 }
 
+impl Drop for Callee {
+    fn drop(self) {
+        match self {
+            Callee::Value(it) => drop(it),
+            Callee::Row(it) => drop(it),
+        }
+    }
+}
+
 /// A call. Some functions of the library take a type before their values.
-#[derive(Drop)]
 pub struct Call {
     pub callee: Callee,
     pub type_argument: Option<CType>,
@@ -93,15 +175,34 @@ pub struct Call {
     pub span: Span,
 }
 
+impl Drop for Call {
+    fn drop(self) {
+        let Call {
+            callee,
+            type_argument,
+            arguments,
+            span: _,
+        } = self;
+        drop(callee);
+        drop(type_argument);
+        drop(arguments);
+    }
+}
+
 /// `case n: goto L;`
-#[derive(Drop)]
 pub struct Case {
     pub number: SignedNumber,
     pub label: Name,
 }
 
+impl Drop for Case {
+    fn drop(self) {
+        let Case { number: _, label } = self;
+        drop(label);
+    }
+}
+
 #[cycle(statement)]
-#[derive(Drop)]
 pub enum Stmt {
     /// `place = value;`
     Assign(Expr, Expr),
@@ -124,10 +225,57 @@ pub enum Stmt {
     Block(Block),
 }
 
+impl Drop for Stmt {
+    #[cycle(statement_dropped)]
+    fn drop(self) {
+        match self {
+            Stmt::Assign(first, second) => {
+                drop(first);
+                drop(second);
+            }
+            Stmt::Call(it) => drop(it),
+            Stmt::Store(first, second) => {
+                drop(first);
+                drop(second);
+            }
+            Stmt::If(first, second, third) => {
+                drop(first);
+                drop(second);
+                drop(third);
+            }
+            Stmt::IfGoto(first, second) => {
+                drop(first);
+                drop(second);
+            }
+            Stmt::Goto(it) => drop(it),
+            Stmt::Label(it) => drop(it),
+            Stmt::Switch(first, second, third) => {
+                drop(first);
+                drop(second);
+                drop(third);
+            }
+            Stmt::Return(_, it) => drop(it),
+            Stmt::Block(it) => drop(it),
+        }
+    }
+}
+
 #[cycle(statement)]
-#[derive(Drop)]
 pub struct Block {
     pub locals: Items<Local>,
     pub body: Items<Stmt>,
     pub span: Span,
+}
+
+impl Drop for Block {
+    #[cycle(statement_dropped)]
+    fn drop(self) {
+        let Block {
+            locals,
+            body,
+            span: _,
+        } = self;
+        drop(locals);
+        drop(body);
+    }
 }

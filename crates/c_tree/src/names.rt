@@ -10,10 +10,16 @@ pub struct Span {
     pub end: u32,
 }
 
-#[derive(Drop)]
 pub struct Name {
     pub text: Items<u8>,
     pub span: Span,
+}
+
+impl Drop for Name {
+    fn drop(self) {
+        let Name { text, span: _ } = self;
+        drop(text);
+    }
 }
 
 /// A number by its value and its type; whether it was written in hexadecimal is not kept.
@@ -31,7 +37,6 @@ pub struct SignedNumber {
 }
 
 /// What a type is built from.
-#[derive(Drop)]
 pub enum Base {
     Void,
     Int,
@@ -40,11 +45,31 @@ pub enum Base {
     Named(Name),
 }
 
+impl Drop for Base {
+    fn drop(self) {
+        match self {
+            Base::Named(it) => drop(it),
+            Base::Void | Base::Int | Base::Char => {}
+        }
+    }
+}
+
 /// A base, whether `const` stands beside it, and how many `*` stand behind it. `const` behind a `*` is not kept.
-#[derive(Drop)]
 pub struct CType {
     pub base: Base,
     pub is_const: bool,
     pub stars: u32,
     pub span: Span,
+}
+
+impl Drop for CType {
+    fn drop(self) {
+        let CType {
+            base,
+            is_const: _,
+            stars: _,
+            span: _,
+        } = self;
+        drop(base);
+    }
 }

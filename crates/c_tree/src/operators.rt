@@ -58,7 +58,6 @@ pub enum BinaryOperator {
 }
 
 /// What stands before its operand.
-#[derive(Drop)]
 pub enum Prefix {
     /// `+`
     Plus,
@@ -76,9 +75,29 @@ pub enum Prefix {
     Cast(CType),
 }
 
+impl Drop for Prefix {
+    fn drop(self) {
+        match self {
+            Prefix::Cast(it) => drop(it),
+            Prefix::Plus
+            | Prefix::Minus
+            | Prefix::Not
+            | Prefix::Complement
+            | Prefix::Deref
+            | Prefix::AddressOf => {}
+        }
+    }
+}
+
 /// An operator before its operand, and where it stands.
-#[derive(Drop)]
 pub struct PrefixOperator {
     pub prefix: Prefix,
     pub span: Span,
+}
+
+impl Drop for PrefixOperator {
+    fn drop(self) {
+        let PrefixOperator { prefix, span: _ } = self;
+        drop(prefix);
+    }
 }
