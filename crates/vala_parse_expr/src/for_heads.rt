@@ -162,7 +162,7 @@ impl<F: Fn(Global, &mut Cursor<'_>, u32, Ask) -> Result<Reply, Stop>> Statements
             return Ok(ForHead { start, test, steps });
         }
         steps.push(self.code.deep_whole(cursor, level)?.into_inner())?;
-        self.more_steps(cursor, level, ForHead { start, test, steps })
+        self.more_steps(cursor, level, start, test, steps)
     }
 
     #[tactic(auto, using(crate::proofs::LoopLaws::more_steps_law, vala_cursor::proofs::Steps::just))]
@@ -170,16 +170,17 @@ impl<F: Fn(Global, &mut Cursor<'_>, u32, Ask) -> Result<Reply, Stop>> Statements
         &self,
         cursor: &mut Cursor<'_>,
         level: u32,
-        head: ForHead,
+        start: Boxed<ForStart>,
+        test: Option<Boxed<Expr>>,
+        first: Items<Expr>,
     ) -> Result<ForHead, Stop>
         requires nests { Nests self.now.code.weight (F.pre self.now.code.deep) (F.post self.now.code.deep) }
         requires low { level ≤ 201 }
         requires within { self.now.code.weight < weight 0 level }
-        ensures tree { Gets (vala_reader (part.MoreSteps head.start head.test head.steps) level (rest cursor.old)) result (rest cursor.new) }
+        ensures tree { Gets (vala_reader (part.MoreSteps start test first) level (rest cursor.old)) result (rest cursor.new) }
         ensures kept { stop cursor.new ≡ stop cursor.old }
     {
-        let (start, test, steps) = head.into_parts();
-        let mut steps = steps;
+        let mut steps = first;
         'items: while cursor.is(Sort::Comma) {
             cursor.expect(Sort::Comma, level)?;
             steps.push(self.code.deep_whole(cursor, level)?.into_inner())?;

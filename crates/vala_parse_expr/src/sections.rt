@@ -151,8 +151,8 @@ impl<F: Fn(Global, &mut Cursor<'_>, u32, Ask) -> Result<Reply, Stop>> Statements
                 let next = self.any_label(cursor, level)?;
                 parts = parts.labelled(self.code.alloc, next)?;
             } else {
-                let next = self.code.deep_any_stmt(cursor, level)?.into_statement();
-                parts.statements.push(next.into_inner())?;
+                let next = self.code.deep_any_stmt(cursor, level)?;
+                parts.statements.push(next.into_statement().into_inner())?;
             }
         }
         let close = cursor.expect(Sort::CloseBrace, level)?;

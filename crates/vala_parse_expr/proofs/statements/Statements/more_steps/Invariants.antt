@@ -7,7 +7,9 @@ use Rattle.vala_parse_expr.proofs.statements.Statements.more_steps.Given as goal
 
 abbrev pub invariant-items : goal.invariant-items
 invariant-items g l = record {
-  same : vala_reader (MoreSteps l.fn.head.start l.fn.head.test l.fn.head.steps) l.level (rest l.fn.cursor) ≡ vala_reader (MoreSteps l.fn.head.start l.fn.head.test l.steps) l.level (rest l.cursor);
+  same : vala_reader (MoreSteps l.fn.start l.fn.test l.fn.first) l.level (rest l.fn.cursor) ≡ vala_reader (MoreSteps l.fn.start l.fn.test l.steps) l.level (rest l.cursor);
+  start : l.start ≡ l.fn.start;
+  test : l.test ≡ l.fn.test;
   kept : stop l.cursor ≡ stop l.fn.cursor;
 }
 
