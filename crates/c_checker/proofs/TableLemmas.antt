@@ -1,5 +1,5 @@
 -- Structs and signatures, as the tables keep them.
-use Rattle.std.proofs.Common.{◌≡◌, ◌∙◌, refl, sym, ap, arith, ℕ, zero, suc, ◌+◌, ◌-◌, ◌<◌, ◌≤◌, ◌==◌, ◌&&◌, nat_lt, Bool, true, false, if◌then◌else◌, length, get_or, set, slice_get, drop, map, List, [], ◌∷◌, ◌++◌, Option, Some, None}
+use Rattle.std.proofs.Common.{◌≡◌, ◌∙◌, refl, sym, ap, arith, ℕ, zero, suc, ◌+◌, ◌-◌, ◌^◌, min, ◌<◌, ◌≤◌, ◌==◌, ◌&&◌, nat_lt, Bool, true, false, if◌then◌else◌, length, get_or, set, slice_get, drop, map, List, [], ◌∷◌, ◌++◌, Option, Some, None}
 use Rattle.std.specs.Str.{bytes_eq}
 use Rattle.std.proofs.lemmas.List.{drop_all, length-drop, length-map, map-append}
 use Rattle.c_tree.specs.declared.names.Name.{Name}
@@ -45,6 +45,10 @@ struct_turn ss x i s n m h is e em =
 pub struct_found : (ss : List Structure) (x : List ℕ) (i : ℕ) (s : Structure) (n : ℕ) → i < length ss → s ≡ get_or ss i s → bytes_eq s.name x ≡ true → Some n ≡ structure_named n (map structure_seen (drop i ss)) x
 struct_found ss x i s n h is e =
     sym (ap (λ r. structure_named n (map structure_seen r) x) (dropped ss i s h is) ∙ named_here (bytes_eq s.name x) n (structure_named (suc n) (map structure_seen (drop (i + 1) ss)) x) e)
+
+-- the cells of one more field
+pub more_cells : (a b r c s : ℕ) → min (a + (b + r)) (2 ^ 62) ≡ s → c ≡ min (a + b) (2 ^ 64 - 1) → min (c + r) (2 ^ 62) ≡ s
+more_cells a b r c s e ec = omega arith
 
 -- no struct gets the fields
 pub fields_nowhere : (ss : List Structure) (n : ℕ) (fs : List rule.Field) (m : ℕ) → slice_get ss n ≡ None → map structure_seen ss ≡ with_fields (map structure_seen ss) n fs m

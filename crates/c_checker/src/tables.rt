@@ -3,7 +3,7 @@
 ghost use Rattle.std.specs.Prelude.{◌≡◌, ◌+◌, ◌++◌, [], ◌∷◌, map, IfOk, OnOk, Some};
 ghost use Rattle.c_tree.specs.Env.{kind_of, number_of, same_takes, signature_number, structure_named, with_signature};
 ghost use Rattle.c_tree.specs.Kinds.{plain, same_known, same_list};
-ghost use Rattle.c_tree.specs.Unit.{define_struct, fields_cells, fields_declared, known_cells, new_struct, parameter_kinds, takes_of, with_fields};
+ghost use Rattle.c_tree.specs.Unit.{define_struct, fields_cells, fields_declared, kept_cells, known_cells, new_struct, parameter_kinds, takes_of, with_fields};
 ghost use Rattle.c_value_checker.specs.Seen.{field_seen, seen, structure_seen, takes_seen};
 
 use c_tree::{Kind, KindBase, Local, Name, Parameter, Signature, Sort};
@@ -124,24 +124,23 @@ fn known_cells(environment: &Environment, kind: Option<Kind>) -> u64
     }
 }
 
-fn add_cells(a: u64, b: u64) -> Result<u64, Memory>
-    ensures { IfOk result (λ sum. sum ≡ a + b) }
-{
-    match a.checked_add(b) {
-        None => Err(Memory),
-        Some(sum) => Ok(sum),
-    }
-}
+// The most cells that are told apart: a struct of as many is never laid out.
+const MOST_CELLS: u64 = 1 << 62;
 
-// The cells of fields.
-fn cells_of_fields(environment: &Environment, fields: &[Field]) -> Result<u64, Memory>
-    ensures { IfOk result (λ cells. cells ≡ fields_cells (seen environment.now) (map field_seen fields.now)) }
+// The cells of fields, as they are kept.
+#[tactic(auto, using(crate::proofs::TableLemmas::more_cells))]
+fn cells_of_fields(environment: &Environment, fields: &[Field]) -> u64
+    ensures { result ≡ kept_cells (fields_cells (seen environment.now) (map field_seen fields.now)) }
 {
-    let mut cells = 0;
+    let mut cells = 0u64;
     for field in fields {
-        cells = add_cells(cells, known_cells(environment, field.kind))?;
+        cells = cells.saturating_add(known_cells(environment, field.kind));
     }
-    Ok(cells)
+    if cells < MOST_CELLS {
+        cells
+    } else {
+        MOST_CELLS
+    }
 }
 
 // The struct with a number gets fields and cells.
@@ -180,7 +179,7 @@ pub fn define(
     ensures { OnOk result (seen environment.new ≡ define_struct (seen environment.old) (Some number) locals.now) }
 {
     let fields = fields_of(alloc, environment, locals)?;
-    let cells = cells_of_fields(environment, fields.as_slice())?;
+    let cells = cells_of_fields(environment, fields.as_slice());
     set_fields(alloc, &mut environment.structs, number, fields, cells)
 }
 

@@ -29,7 +29,7 @@ use Rattle.c_tree.specs.Faults.{fault, twice, unless}
 use Rattle.c_tree.specs.Checks.{checked, type_faults}
 use Rattle.c_tree.specs.Types.{is_object}
 use Rattle.c_tree.specs.Rules.{Context, Body, checked_block, fit, laid_out_if, not_laid_out, twice_here}
-use Rattle.c_tree.specs.Unit.{parameter_kinds, takes_of, with_optional, with_parameter, with_parameters, twice_optional, parameter_faults, signature_faults, unlaid, unlaid_optional, unlaid_parameters, unlaid_result, again, is_defined_already, with_function, has_name, label_faults, target_faults, block_end, body_faults, fields_declared, has_field, field_faults, with_fields, fields_cells, define_struct, defined_twice, struct_faults, with_members, member_faults, with_item, variable_twice, ends_faults, function_faults, kind_named, item_faults, items_faults, is_main, unit_faults, has_main}
+use Rattle.c_tree.specs.Unit.{parameter_kinds, takes_of, with_optional, with_parameter, with_parameters, twice_optional, parameter_faults, signature_faults, unlaid, unlaid_optional, unlaid_parameters, unlaid_result, again, is_defined_already, with_function, has_name, label_faults, target_faults, block_end, body_faults, fields_declared, has_field, field_faults, with_fields, kept_cells, fields_cells, define_struct, defined_twice, struct_faults, with_members, member_faults, with_item, variable_twice, ends_faults, function_faults, kind_named, item_faults, items_faults, is_main, unit_faults, has_main}
 use Rattle.c_tree.specs.Items as it
 use Rattle.c_tree.specs.Items.{ReadsItem, ReadsItems, no_item, more_items}
 use Rattle.c_tree.specs.Answers.{IsSound}
@@ -162,7 +162,7 @@ fields_clean env before (l ∷ ls) =
 
 struct_scope : (env : Env) (o : Option ℕ) (ls : List Local) → define_struct env o (map bare_local ls) ≡ define_struct env o ls
 struct_scope env None ls = refl
-struct_scope env (Some n) ls = ap (λ (fs : List Declared). record env { structs = with_fields env.structs n fs (fields_cells env fs) }) (fields_bare env ls)
+struct_scope env (Some n) ls = ap (λ (fs : List Declared). record env { structs = with_fields env.structs n fs (kept_cells (fields_cells env fs)) }) (fields_bare env ls)
 
 defined_clean : (o : Option (List Declared)) (x y : Name) → clean (defined_twice o x) ≡ clean (defined_twice o y)
 defined_clean None x y = refl

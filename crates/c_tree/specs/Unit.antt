@@ -1,5 +1,5 @@
 -- The faults of items and of a whole unit.
-use Rattle.std.specs.Prelude.{ℕ, zero, suc, ◌+◌, ◌-◌, ◌==◌, ◌&&◌, ◌||◌, not, Bool, true, false, if◌then◌else◌, List, [], ◌∷◌, ◌++◌, length, codes, Option, Some, None}
+use Rattle.std.specs.Prelude.{ℕ, zero, suc, ◌+◌, ◌-◌, ◌==◌, ◌&&◌, ◌||◌, ◌^◌, min, not, Bool, true, false, if◌then◌else◌, List, [], ◌∷◌, ◌++◌, length, codes, Option, Some, None}
 use Rattle.std.specs.List.{list_any}
 use Rattle.std.specs.Str.{bytes_eq}
 use Rattle.c_tree.specs.declared.names.Name.{Name}
@@ -164,6 +164,10 @@ abbrev pub fields_cells : Env → List Declared → ℕ
 fields_cells env [] = 0
 fields_cells env (f ∷ fs) = known_cells env f.kind + fields_cells env fs
 
+-- a number of cells as it is kept: 2^62 stands for all that are not fewer, since none of those is laid out
+abbrev pub kept_cells : ℕ → ℕ
+kept_cells n = min n (2 ^ 62)
+
 -- the struct with that number has these fields and so many cells
 abbrev pub with_fields : List Structure → ℕ → List Declared → ℕ → List Structure
 with_fields [] n fs m = []
@@ -173,7 +177,7 @@ with_fields (s ∷ ss) (suc n) fs m = s ∷ with_fields ss n fs m
 -- behind the definition of a struct
 abbrev pub define_struct : Env → Option ℕ → List Local → Env
 define_struct env None ls = env
-define_struct env (Some n) ls = record env { structs = with_fields env.structs n (fields_declared env ls) (fields_cells env (fields_declared env ls)) }
+define_struct env (Some n) ls = record env { structs = with_fields env.structs n (fields_declared env ls) (kept_cells (fields_cells env (fields_declared env ls))) }
 
 -- a struct that has fields already
 abbrev pub defined_twice : Option (List Declared) → Name → List Fault
