@@ -1,0 +1,6 @@
+pub mod Looks
+pub mod Coded
+pub mod Resolved
+pub mod Statements
+pub mod Machine
+pub mod Laws
