@@ -1,0 +1,7 @@
+mod Picks
+mod Unfold
+mod Values
+mod Statements
+mod Items
+mod Tokens
+mod Whole
