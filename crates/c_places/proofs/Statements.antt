@@ -35,7 +35,8 @@ mutual
   stmt_stands (st.assigns t e {a} {b} ra i rb j) = by (stmt_texts_at (Stmt-F.Assign a b)) (behind (append (place_stands ra) (pass t (value_stands rb))) (e ∷ []))
   stmt_stands (st.calls e {c} rc j) = by (stmt_texts_at (Stmt-F.Call c)) (behind (call_stands rc) (e ∷ []))
   stmt_stands (st.stores t e {a} {c} ra i rc j) = by (stmt_texts_at (Stmt-F.Store a c)) (behind (append (place_stands ra) (pass t (call_stands rc))) (e ∷ []))
-  stmt_stands (st.if_block {i} {t} s {a} {b} h j ra k rb) = by (stmt_texts_at (Stmt-F.If a b None)) (and_none (append (pass i (pass t (value_stands ra))) (pass s (block_stands rb))))
+  stmt_stands (st.if_block {i} {t} s {a} {b} h j ra k rb) =
+      by (stmt_texts_at (Stmt-F.If a b None)) (and_none (append (pass i (pass t (value_stands ra))) (pass s (block_stands rb))))
   stmt_stands (st.if_else {i} {t} s l {a} {b} {d} h j ra k rb m rd) =
       by (stmt_texts_at (Stmt-F.If a b (Some d))) (append (append (pass i (pass t (value_stands ra))) (pass s (block_stands rb))) (pass l (block_stands rd)))
   stmt_stands (st.if_goto {i} {t} s n {w} {a} h j ra k rg) = by (stmt_texts_at (Stmt-F.IfGoto a (name_at n))) (behind (pass i (pass t (value_stands ra))) (s ∷ w))
@@ -52,7 +53,8 @@ mutual
   stmts_stand (st.more_stmts r rest) = append (stmt_stands r) (stmts_stand rest)
 
   pub block_stands : {ns : Names} {w : Word} {b : Block} → ReadsBlock ns w b → Stand (block_texts texts_of b) w
-  block_stands (st.block_is {t} s {u} {ls} {ss} i rl rs j) = by (block_texts_at ls ss (join (at t) (at s))) (behind (append (nothing (t ∷ u)) (stmts_stand rs)) (s ∷ []))
+  block_stands (st.block_is {t} s {u} {ls} {ss} i rl rs j) =
+      by (block_texts_at ls ss (join (at t) (at s))) (behind (append (nothing (t ∷ u)) (stmts_stand rs)) (s ∷ []))
 
 -- 2. Locals
 
@@ -75,7 +77,8 @@ mutual
   stmt_named (st.assigns t e {u} {w} {a} {b} ra i rb j) = by_name (stmt_locals_at (Stmt-F.Assign a b)) (nothing (u ++ t ∷ w ++ e ∷ []))
   stmt_named (st.calls e {w} {c} rc j) = by_name (stmt_locals_at (Stmt-F.Call c)) (nothing (w ++ e ∷ []))
   stmt_named (st.stores t e {u} {w} {a} {c} ra i rc j) = by_name (stmt_locals_at (Stmt-F.Store a c)) (nothing (u ++ t ∷ w ++ e ∷ []))
-  stmt_named (st.if_block {i} {t} s {u} {a} {b} h j ra k rb) = by_name (stmt_locals_at (Stmt-F.If a b None)) (and_none (append (nothing (i ∷ t ∷ u)) (pass s (block_named rb))))
+  stmt_named (st.if_block {i} {t} s {u} {a} {b} h j ra k rb) =
+      by_name (stmt_locals_at (Stmt-F.If a b None)) (and_none (append (nothing (i ∷ t ∷ u)) (pass s (block_named rb))))
   stmt_named (st.if_else {i} {t} s l {u} {a} {b} {d} h j ra k rb m rd) =
       by_name (stmt_locals_at (Stmt-F.If a b (Some d))) (append (append (nothing (i ∷ t ∷ u)) (pass s (block_named rb))) (pass l (block_named rd)))
   stmt_named (st.if_goto {i} {t} s n {u} {w} {a} h j ra k rg) = by_name (stmt_locals_at (Stmt-F.IfGoto a (name_at n))) (nothing (i ∷ t ∷ u ++ s ∷ w))
@@ -92,4 +95,5 @@ mutual
   stmts_named (st.more_stmts r rest) = append (stmt_named r) (stmts_named rest)
 
   pub block_named : {ns : Names} {w : Word} {b : Block} → ReadsBlock ns w b → NamesStand (locals_of b) w
-  block_named (st.block_is {t} s {ls} {ss} i rl rs j) = by_name (block_locals_at ls ss (join (at t) (at s))) (behind (append (pass t (locals_named rl)) (stmts_named rs)) (s ∷ []))
+  block_named (st.block_is {t} s {ls} {ss} i rl rs j) =
+      by_name (block_locals_at ls ss (join (at t) (at s))) (behind (append (pass t (locals_named rl)) (stmts_named rs)) (s ∷ []))

@@ -58,16 +58,19 @@ choice_stands : (a b : Expr) (cs : List Choice) (e : Expr) {w : Word} → Stand 
 choice_stands a b cs e {w} s = subst (λ (z : List Literal). Stand (z ++ link_texts (map choice_literals cs) ++ texts_of e) w) (sym (choice_at a b))
     (by (append_assoc (texts_of a ++ texts_of b) (link_texts (map choice_literals cs)) (texts_of e)) s)
 
-link_stands : (o : BinaryOperator) (b : Expr) (ls : List Link) {w : Word} → Stand (texts_of b ++ link_texts (map link_literals ls)) w → Stand (link_texts (map link_literals (link o b ∷ ls))) w
+link_stands : (o : BinaryOperator) (b : Expr) (ls : List Link) {w : Word} → Stand (texts_of b ++ link_texts (map link_literals ls)) w
+    → Stand (link_texts (map link_literals (link o b ∷ ls))) w
 link_stands o b ls {w} s = subst (λ (z : List Literal). Stand (z ++ link_texts (map link_literals ls)) w) (sym (link_at o b)) s
 
-suffix_stands : (x : Suffix) (z : List Literal) (xs : List Suffix) {w : Word} → suffix_literals x ≡ z → Stand (z ++ link_texts (map suffix_literals xs)) w → Stand (literals_in Suffixes (x ∷ xs)) w
+suffix_stands : (x : Suffix) (z : List Literal) (xs : List Suffix) {w : Word} → suffix_literals x ≡ z
+    → Stand (z ++ link_texts (map suffix_literals xs)) w → Stand (literals_in Suffixes (x ∷ xs)) w
 suffix_stands x z xs {w} e s = subst (λ (y : List Literal). Stand (y ++ link_texts (map suffix_literals xs)) w) (sym e) s
 
 pub value_stands : {ns : Names} {constant : Bool} {p : Part} {w : Word} {x : tree_of p} → v.Reads ns constant p w x → Stand (literals_in p x) w
 value_stands (v.value {cs} {e} r) = by (conditional_texts cs e) (value_stands r)
 value_stands (v.last_choice r) = value_stands r
-value_stands (v.more_choices t s {a} {b} {e} {cs} ra i rb j rest) = choice_stands a b cs e (append (append (value_stands ra) (pass t (value_stands rb))) (pass s (value_stands rest)))
+value_stands (v.more_choices t s {a} {b} {e} {cs} ra i rb j rest) =
+    choice_stands a b cs e (append (append (value_stands ra) (pass t (value_stands rb))) (pass s (value_stands rest)))
 value_stands (v.chain {a} {ls} ra rl) = by (chained_texts a ls) (append (value_stands ra) (value_stands rl))
 value_stands v.no_link = none
 value_stands (v.more_links {t} {o} {b} {ls} i e l rb rest) = link_stands o b ls (append (pass t (value_stands rb)) (value_stands rest))
