@@ -25,7 +25,8 @@ use Rattle.c_cursor.proofs.MadeLaws.{is_first}
 pub next_stopped : (x : Set) (p : Parser) → p.is_stopped ≡ true → false ≡ next_in kind (test x p) (state p)
 next_stopped x p e = ap (λ (b : Bool). next_in kind (test x p) (state_at b (rest p.cursor))) (sym e)
 
-next_some : (f : Kind → Bool) (b : Bool) (w : Word) (t : words.Token) (r : Bool) → b ≡ false → Some t ≡ first w → r ≡ f (kind t) → r ≡ next_in kind f (state_at b w)
+next_some : (f : Kind → Bool) (b : Bool) (w : Word) (t : words.Token) (r : Bool) → b ≡ false → Some t ≡ first w → r ≡ f (kind t)
+    → r ≡ next_in kind f (state_at b w)
 next_some f true w t r e n h = absurd cc
 next_some f false [] t r e n h = absurd cc
 next_some f false (y ∷ w) t r e n h = let same : t ≡ y = cc in h ∙ ap (λ (z : words.Token). f (kind z)) same
@@ -75,12 +76,14 @@ asked_at e f l before false (y ∷ ts) t s h =
     go false below m n h i = absurd cc
     go true below m n h i = let token : t ≡ below.0 = cc in ap₂ (λ (z : words.Token) (r : Place). (z, r)) token i
 
-pub asked_taken : (x : Set) (l : ℕ) (before : Word) (p q : Parser) (t : Token) → (Some (seen t), state q) ≡ accepted x l p → (seen t, state q) ≡ asked x l before p
+pub asked_taken : (x : Set) (l : ℕ) (before : Word) (p q : Parser) (t : Token) → (Some (seen t), state q) ≡ accepted x l p
+    → (seen t, state q) ≡ asked x l before p
 asked_taken x l before p q t h = asked_at p.end (test x p) l before p.is_stopped (rest p.cursor) (seen t) (state q) h
 
 -- where the next one is not in the set
 pub passed_over : (x : Set) (l : ℕ) (p q : Parser) → (None, state q) ≡ accepted x l p → (next_in kind (test x p) (state p) ≡ false) × (state q ≡ state p)
-passed_over x l p q h = go (next_in kind (test x p) (state p)) (asked x l [] p) (ap (λ (z : Option words.Token × Place). z.0) h) (ap (λ (z : Option words.Token × Place). z.1) h)
+passed_over x l p q h = go (next_in kind (test x p) (state p)) (asked x l [] p) (ap (λ (z : Option words.Token × Place). z.0) h)
+    (ap (λ (z : Option words.Token × Place). z.1) h)
   where
     go : (c : Bool) (y : words.Token × Place) → None ≡ (option_by c y (state p)).0 → state q ≡ (option_by c y (state p)).1 → (c ≡ false) × (state q ≡ state p)
     go true y h i = absurd cc
@@ -101,7 +104,8 @@ made_at : (e : ℕ) (f : Kind → Bool) (l : ℕ) (before : Word) (b : Bool) (w 
     → make C (made_up e) f before w ≡ mend_token C (made_up e) c_limits l 0 f before (state_at b w)
 made_at e f l before true w h = refl
 made_at e f l before false [] h = refl
-made_at e f l before false (t ∷ ts) h = ap (λ (c : Bool). if c then take_below C (made_up e) c_limits l 0 t ts else make C (made_up e) f before (t ∷ ts)) (sym h)
+made_at e f l before false (t ∷ ts) h = ap (λ (c : Bool). if c then take_below C (made_up e) c_limits l 0 t ts
+    else make C (made_up e) f before (t ∷ ts)) (sym h)
 
 made_place_is : (e : ℕ) (w : Word) → place_of e (first w) ≡ suc (words.start_of e w)
 made_place_is e [] = refl

@@ -1,5 +1,6 @@
 -- Names of included files in the tokens of the lexer.
-use Rattle.std.proofs.Common.{◌≡◌, ◌≢◌, ℕ, zero, suc, ◌+◌, ◌-◌, ◌<◌, ◌≤◌, ◌==◌, ◌&&◌, Bool, true, false, if◌then◌else◌, List, [], ◌∷◌, ◌++◌, length, take, drop, append-nil, get_or, codes, Option, Some, None, Ok, Err, refl, sym, ap, ap₂, subst, ◌∙◌, arith}
+use Rattle.std.proofs.Common.{◌≡◌, ◌≢◌, ℕ, zero, suc, ◌+◌, ◌-◌, ◌<◌, ◌≤◌, ◌==◌, ◌&&◌, Bool, true, false, if◌then◌else◌, List, [], ◌∷◌, ◌++◌, length}
+use Rattle.std.proofs.Common.{take, drop, append-nil, get_or, codes, Option, Some, None, Ok, Err, refl, sym, ap, ap₂, subst, ◌∙◌, arith}
 use Rattle.std.specs.Str.{bytes_eq}
 use Rattle.std.proofs.lemmas.Bool.{eqb-true, eqb-false, eq-eqb, ne_eqb}
 use Rattle.std.proofs.Math.Seq.{drop-cons}
@@ -50,7 +51,8 @@ pub passed_more : (n : ℕ) (l m : Left) (ts : List Lexeme) → n ≢ 0 → m �
 passed_more zero l m ts some behind e = absurd (some refl)
 passed_more (suc n) l m ts some behind e =
     let before : suc n - 1 ≡ n = omega arith in
-    e ∙ ap (λ (i : ℕ). drop i (tokens_of m)) before ∙ ap (λ (x : Left). drop n (tokens_of x)) behind ∙ ap (drop n) (tokens_behind l) ∙ drop_once_more n (tokens_of l)
+    e ∙ ap (λ (i : ℕ). drop i (tokens_of m)) before ∙ ap (λ (x : Left). drop n (tokens_of x)) behind ∙ ap (drop n) (tokens_behind l)
+    ∙ drop_once_more n (tokens_of l)
 
 pub bad_more : (l m : Left) (o : Option BadToken) → m ≡ behind_next l → o ≡ bad_of m → o ≡ bad_of l
 bad_more l m o behind e = e ∙ ap bad_of behind ∙ bad_next l
@@ -148,7 +150,8 @@ none_left at (suc n) ts e = ap (λ (xs : List Lexeme). side_by_side at (take (su
 pub spelled_end : (l : Left) (at n : ℕ) (s : List ℕ) (o : Option ℕ) → next_of l ≡ Ok None → o ≡ spelled at 0 [] s → o ≡ spelled at n (tokens_of l) s
 spelled_end l at n s o next e = e ∙ ap (λ (xs : List ℕ). spelled_by (bytes_eq xs s) at s) (none_left at n (tokens_of l) (tokens_end l next))
 
-pub spelled_broken : (l : Left) (r : BadToken) (at n : ℕ) (s : List ℕ) (o : Option ℕ) → next_of l ≡ Err r → o ≡ spelled at 0 [] s → o ≡ spelled at n (tokens_of l) s
+pub spelled_broken : (l : Left) (r : BadToken) (at n : ℕ) (s : List ℕ) (o : Option ℕ) → next_of l ≡ Err r → o ≡ spelled at 0 [] s
+    → o ≡ spelled at n (tokens_of l) s
 spelled_broken l r at n s o next e = e ∙ ap (λ (xs : List ℕ). spelled_by (bytes_eq xs s) at s) (none_left at n (tokens_of l) (tokens_broken l r next))
 
 -- 3. Files
@@ -173,15 +176,18 @@ this_found k l t e b w empty next some spells tokens bad text = go (bytes_eq (si
     go false is s = absurd cc
     go true is s =
         let place : e ≡ t.start + length k.spelling.now = cc in
-        let same : side_by_side t.start (take k.tokens (t ∷ after l)) ≡ k.spelling.now = same_bytes (side_by_side t.start (take k.tokens (t ∷ after l))) k.spelling.now is in
+        let same : side_by_side t.start (take k.tokens (t ∷ after l)) ≡ k.spelling.now =
+        same_bytes (side_by_side t.start (take k.tokens (t ∷ after l))) k.spelling.now is in
         record {
           token = ap₂ (λ (x : List ℕ) (p : ℕ). file_token k t x p) empty (place ∙ ap (λ (x : List ℕ). t.start + length x) (sym same));
-          tokens = tokens ∙ ap (drop k.tokens) (tokens_next (left l) t next) ∙ ap (λ (n : ℕ). drop n (t ∷ after l)) (let count : k.tokens ≡ suc (k.tokens - 1) = omega arith in count);
+          tokens = tokens ∙ ap (drop k.tokens) (tokens_next (left l) t next)
+              ∙ ap (λ (n : ℕ). drop n (t ∷ after l)) (let count : k.tokens ≡ suc (k.tokens - 1) = omega arith in count);
           bad = bad;
           text = text;
         }
 
-pub this_missing : (k : SystemFile) (l : Lexer) (t : Lexeme) → next_of (left l) ≡ Ok (Some t) → None ≡ spelled t.start k.tokens (tokens_of (left l)) k.spelling.now
+pub this_missing : (k : SystemFile) (l : Lexer) (t : Lexeme) → next_of (left l) ≡ Ok (Some t)
+    → None ≡ spelled t.start k.tokens (tokens_of (left l)) k.spelling.now
     → FindsAt (λ ts. file_among (k ∷ []) t.start (t ∷ ts)) l t None
 this_missing k l t next spells = go (bytes_eq (side_by_side t.start (take k.tokens (t ∷ after l))) k.spelling.now)
     (spells ∙ ap (λ (xs : List Lexeme). spelled t.start k.tokens xs k.spelling.now) (tokens_next (left l) t next))

@@ -16,7 +16,8 @@ enough (suc n) (suc m) l h g = go (next_of l) refl (λ t e.
     let ends : t.«end» ≤ length l.bytes = token_ends l t e in
     enough n m (behind l (Ok (Some t))) (omega arith) (omega arith))
   where
-    go : (a : Answer) → next_of l ≡ a → ((t : Lexeme) → next_of l ≡ Ok (Some t) → tokens_upto n (behind l (Ok (Some t))) ≡ tokens_upto m (behind l (Ok (Some t))))
+    go : (a : Answer) → next_of l ≡ a → ((t : Lexeme) → next_of l ≡ Ok (Some t)
+        → tokens_upto n (behind l (Ok (Some t))) ≡ tokens_upto m (behind l (Ok (Some t))))
         → tokens_by (tokens_upto n) l a ≡ tokens_by (tokens_upto m) l a
     go (Ok None) e more = refl
     go (Err r) e more = refl
@@ -43,7 +44,8 @@ tokens_broken l r e = ap (tokens_by (tokens_upto (length l.bytes)) l) e
 pub tokens_is : (l : Left) (ts : List Lexeme) (o : Option BadToken) → Tokens l ts o → tokens_of l ≡ ts
 tokens_is _ _ _ (end l e) = tokens_end l e
 tokens_is _ _ _ (broken l r e) = tokens_broken l r e
-tokens_is _ _ _ (token l t {ts} {o} e more) = tokens_next l t e ∙ ap (λ (xs : List Lexeme). t ∷ xs) (ap (λ (a : Answer). tokens_of (behind l a)) e ∙ tokens_is (behind l (Ok (Some t))) ts o more)
+tokens_is _ _ _ (token l t {ts} {o} e more) = tokens_next l t e
+    ∙ ap (λ (xs : List Lexeme). t ∷ xs) (ap (λ (a : Answer). tokens_of (behind l a)) e ∙ tokens_is (behind l (Ok (Some t))) ts o more)
 
 -- ---- the bad token behind them
 

@@ -55,7 +55,8 @@ on_each false false true false false = refl
 on_each false false false true false = refl
 on_each false false false false false = refl
 
-pub item_others : (h a b c d l x y : Bool) → x ≡ h → x ≡ false → y ≡ ((a || (b || (c || d))) && l) → y ≡ (h || ((a && l) || ((b && l) || ((c && l) || (d && l)))))
+pub item_others : (h a b c d l x y : Bool) → x ≡ h → x ≡ false → y ≡ ((a || (b || (c || d))) && l)
+    → y ≡ (h || ((a && l) || ((b && l) || ((c && l) || (d && l)))))
 item_others true a b c d l x y e h f = absurd cc
 item_others false a b c d l x y e h f = f ∙ on_each a b c d l
 

@@ -45,7 +45,8 @@ any_name : (t : Token) → is_any_name (kind (seen t)) ≡ true → (seen t).byt
 any_name t h = named_bytes t (is_name [] (seen t) h)
 
 base_token : (anyhow : Bool) (ns : Names) (t : Token) → on ns (is_base anyhow) (kind (seen t)) ≡ true → is_base_token (seen t).terminal ≡ true
-base_token anyhow ns t h = go (on ns (word_is keyword.Void) (kind (seen t))) (on ns (word_is keyword.Int) (kind (seen t))) (on ns (word_is keyword.Char) (kind (seen t))) refl refl refl h
+base_token anyhow ns t h = go (on ns (word_is keyword.Void) (kind (seen t))) (on ns (word_is keyword.Int) (kind (seen t)))
+    (on ns (word_is keyword.Char) (kind (seen t))) refl refl refl h
   where
     go : (a b c : Bool) → on ns (word_is keyword.Void) (kind (seen t)) ≡ a → on ns (word_is keyword.Int) (kind (seen t)) ≡ b
         → on ns (word_is keyword.Char) (kind (seen t)) ≡ c
@@ -96,7 +97,8 @@ read_one t z = Some (t, z)
 
 pub took_law : (x : Set) (l : ℕ) (p q : Parser) (o : Option Token) → (seen_option o, state q) ≡ accepted x l p → Took x l p o q
 unfolding one is_next
-took_law x l p q o h = go (next_in kind (test x p) (state p)) refl o (ap (λ (y : Option words.Token × Place). y.0) h) (ap (λ (y : Option words.Token × Place). y.1) h)
+took_law x l p q o h = go (next_in kind (test x p) (state p)) refl o (ap (λ (y : Option words.Token × Place). y.0) h)
+    (ap (λ (y : Option words.Token × Place). y.1) h)
   where
     go : (b : Bool) → next_in kind (test x p) (state p) ≡ b → (o : Option Token) → seen_option o ≡ (accepted_by b (asked x l [] p) (state p)).0
         → state q ≡ (accepted_by b (asked x l [] p) (state p)).1 → Took x l p o q
@@ -105,7 +107,8 @@ took_law x l p q o h = go (next_in kind (test x p) (state p)) refl o (ap (λ (y 
         let token : seen t ≡ (asked x l [] p).0 = cc in (
           holds,
           ap (λ (y : words.Token). read_one y (asked x l [] p).1) (sym token) ∙ ap (λ (z : Place). read_one (seen t) z) (sym there),
-          bears_law x (names_of p.names) t (subst (λ (y : words.Token). is_in x (names_of p.names) (kind y) ≡ true) (sym token) (taken_kind p.end l (test x p) (state p) holds)),
+          bears_law x (names_of p.names) t (subst (λ (y : words.Token). is_in x (names_of p.names) (kind y) ≡ true) (sym token)
+              (taken_kind p.end l (test x p) (state p) holds)),
         )
     go false other None h there = (other, there)
     go false other (Some t) h there = absurd cc

@@ -40,9 +40,11 @@ pub joined_plain : (b : Before) (front : Lexer) (t : Lexeme) → next_of (left f
     → plain t ∷ words_behind (then_behind (behind_of b) t) (tokens_of (behind_next (left front))) ≡ words_behind (behind_of b) (tokens_of (left front))
 joined_plain b front t e f = go (file_behind (behind_of b) t (tokens_of (behind_next (left front)))) refl f
   where
-    go : (o : Option Named) → file_behind (behind_of b) t (tokens_of (behind_next (left front))) ≡ o → Finds o front t (tokens_of (behind_next (left front))) None
+    go : (o : Option Named) → file_behind (behind_of b) t (tokens_of (behind_next (left front))) ≡ o
+        → Finds o front t (tokens_of (behind_next (left front))) None
         → plain t ∷ words_behind (then_behind (behind_of b) t) (tokens_of (behind_next (left front))) ≡ words_behind (behind_of b) (tokens_of (left front))
-    go None is found = plain_step b t (tokens_of (behind_next (left front))) is ∙ ap (λ (ts : List Lexeme). words_behind (behind_of b) ts) (sym (tokens_next (left front) t e))
+    go None is found = plain_step b t (tokens_of (behind_next (left front))) is
+        ∙ ap (λ (ts : List Lexeme). words_behind (behind_of b) ts) (sym (tokens_next (left front) t e))
     go (Some n) is found = absurd found
 
 -- where one is found, it is the token
