@@ -1,5 +1,6 @@
 -- Blocks by their steps.
-use Rattle.std.proofs.Common.{◌≡◌, ℕ, suc, ◌-◌, ◌≤◌, Bool, true, false, ◌&&◌, if◌then◌else◌, List, [], ◌∷◌, ◌++◌, length, drop, Option, Some, None, refl, sym, ap, ◌∙◌, append_assoc, append-nil, arith}
+use Rattle.std.proofs.Common.{◌≡◌, ℕ, suc, ◌-◌, ◌≤◌, Bool, true, false, ◌&&◌, if◌then◌else◌, List, [], ◌∷◌, ◌++◌, length, drop, Option, Some, None}
+use Rattle.std.proofs.Common.{refl, sym, ap, ◌∙◌, append_assoc, append-nil, arith}
 use Rattle.mending_readers.specs.Mending.{mend_then, next_in}
 use Rattle.c_lexer.specs.declared.token.Keyword.TheVariants as keyword
 use Rattle.c_lexer.specs.declared.token.Sign.TheVariants as sign
@@ -26,22 +27,26 @@ use Rattle.c_parser.proofs.Thens.{then_just, then_assoc, way_same}
 use Rattle.c_parser.proofs.TypeRows.{more_law}
 use Rattle.c_parser.proofs.Walks.{Free, free_give, free_take, free_part, free_pick, free_where, run, then_same, by_form}
 
-pub local_law : (e : ℕ) (ns : Names) (l : ℕ) (s : Place) → read e ns part.LocalOf l s ≡ mend_then (read e ns (part.AnyType true true) l s) (λ c z. local_end e ns c l z)
+pub local_law : (e : ℕ) (ns : Names) (l : ℕ) (s : Place) → read e ns part.LocalOf l s
+    ≡ mend_then (read e ns (part.AnyType true true) l s) (λ c z. local_end e ns c l z)
 unfolding run form one read local_end
 local_law e ns l s = by_form e ns part.LocalOf l s (free_part (λ c. free_take (λ n b. refl) (λ n. free_take (λ n b. refl) (λ x. free_give))))
 
 free_local_rest : (ns : Names) (t : Token) → Free (form ns (part.LocalRest t))
 unfolding form
-free_local_rest ns t = free_pick (free_part (λ c. free_take (λ n b. refl) (λ n. free_take (λ n b. refl) (λ x. free_give)))) (free_take (λ n b. refl) (λ n. free_take (λ n b. refl) (λ x. free_give)))
+free_local_rest ns t = free_pick (free_part (λ c. free_take (λ n b. refl) (λ n. free_take (λ n b. refl) (λ x. free_give))))
+    (free_take (λ n b. refl) (λ n. free_take (λ n b. refl) (λ x. free_give)))
 
 pub local_rest_law : (e : ℕ) (ns : Names) (t : Token) (l : ℕ) (s : Place) → read e ns (part.LocalRest t) l s
     ≡ way ns set.TypeMore s (mend_then (type_more e ns None t l s) (λ c z. local_end e ns c l z)) (local_end e ns (type_in_rows None t None no_stars) l s)
 unfolding run form one is_next read local_end
 local_rest_law e ns t l s = by_form e ns (part.LocalRest t) l s (free_local_rest ns t)
-    ∙ way_same (next_in kind (on ns goes_on_type) s) (ap (λ o. mend_then o (λ c z. local_end e ns c l z)) (more_law e ns [] t l s)) (ap (λ c. local_end e ns c l s) (type_rows [] t [] tree.no_stars))
+    ∙ way_same (next_in kind (on ns goes_on_type) s) (ap (λ o. mend_then o (λ c z. local_end e ns c l z)) (more_law e ns [] t l s))
+    (ap (λ c. local_end e ns c l s) (type_rows [] t [] tree.no_stars))
 
 pub fields_law : (e : ℕ) (ns : Names) (l : ℕ) (s : Place) → read e ns part.Fields l s
-    ≡ way ns (set.Type true) s (mend_then (mend_then (read e ns (part.AnyType true true) l s) (λ c z. local_end e ns c l z)) (λ x z. first_then x (read e ns part.Fields l z))) (Some ([], s))
+    ≡ way ns (set.Type true) s (mend_then (mend_then (read e ns (part.AnyType true true) l s) (λ c z. local_end e ns c l z))
+    (λ x z. first_then x (read e ns part.Fields l z))) (Some ([], s))
 unfolding run form is_next read first_then
 fields_law e ns l s = by_form e ns part.Fields l s (free_pick (free_part (λ x. free_part (λ xs. free_give))) free_give)
     ∙ way_same (next_in kind (on ns (begins_type true)) s) (ap (λ o. mend_then o (λ x z. first_then x (read e ns part.Fields l z))) (local_law e ns l s)) refl
@@ -57,7 +62,9 @@ first_is x None = refl
 first_is x (Some y) = refl
 
 pub block_law : (e : ℕ) (ns : Names) (l : ℕ) (s : Place) → read e ns part.BlockOf l s
-    ≡ mend_then (one e ns (set.Sign sign.OpenBrace) (suc l) s) (λ t z. mend_then (read e ns part.Body (suc l) z) (λ r y. mend_then (one e ns (set.Sign sign.CloseBrace) l y) (λ x w. Some (block r.0 r.1 (join (at t) (at x)), w))))
+    ≡ mend_then (one e ns (set.Sign sign.OpenBrace) (suc l) s)
+    (λ t z. mend_then (read e ns part.Body (suc l) z) (λ r y. mend_then (one e ns (set.Sign sign.CloseBrace) l y)
+    (λ x w. Some (block r.0 r.1 (join (at t) (at x)), w))))
 unfolding run form one read
 block_law e ns l s = by_form e ns part.BlockOf l s (free_take (λ n b. refl) (λ t. free_part (λ r. free_take (λ n b. refl) (λ x. free_give))))
 
@@ -68,7 +75,8 @@ free_by_name ns t true = free_pick (free_part (λ x. free_part (λ r. free_give)
 free_by_name ns t false = free_part (λ x. free_part (λ r. free_give))
 
 run_by_name : (e : ℕ) (ns : Names) (t : Token) (b : Bool) (l : ℕ) (s : Place) → run e (grammar.body_named ns t b) l s
-    ≡ (if b && is_next ns set.LocalMore s then mend_then (read e ns (part.LocalRest t) l s) (λ x z. local_behind e ns x l z) else mend_then (read e ns (part.NamedStmt t) l s) (λ x z. statement_behind e ns x l z))
+    ≡ (if b && is_next ns set.LocalMore s then mend_then (read e ns (part.LocalRest t) l s) (λ x z. local_behind e ns x l z)
+    else mend_then (read e ns (part.NamedStmt t) l s) (λ x z. statement_behind e ns x l z))
 unfolding run is_next read local_then statement_then
 run_by_name e ns t true l s = refl
 run_by_name e ns t false l s = refl
@@ -104,7 +112,8 @@ pub locals_end : (xs : List Local) (z : Place) → locals_then xs (Some (([], []
 unfolding locals_then
 locals_end xs z = ap (λ ys. Some ((ys, []), z)) (append-nil xs)
 
-pub locals_behind : (xs : List Local) (x : Stmt) (o : Read (List Stmt)) (ys : List Stmt) (z : Place) → first_then x o ≡ Some (ys, z) → locals_then xs (statement_then x o) ≡ Some ((xs, ys), z)
+pub locals_behind : (xs : List Local) (x : Stmt) (o : Read (List Stmt)) (ys : List Stmt) (z : Place) → first_then x o ≡ Some (ys, z)
+    → locals_then xs (statement_then x o) ≡ Some ((xs, ys), z)
 unfolding locals_then statement_then first_then
 locals_behind xs x None ys z h = absurd cc
 locals_behind xs x (Some r) ys z h = ap (λ us. Some ((us, x ∷ r.0), r.1)) (append-nil xs) ∙ ap (λ o. mend_then o (λ us w. Some ((xs, us), w))) h

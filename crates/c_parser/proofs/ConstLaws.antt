@@ -25,16 +25,19 @@ consts_by e ns l s b = if b then mend_then (one e ns (set.Word keyword.Const) l 
 
 -- those behind a row
 go_on : (e : ℕ) (ns : Names) (l : ℕ) (s : Place) (row : Option Span) (b : Bool)
-    → rows_behind row (consts_by e ns l s b) ≡ (if b then mend_then (one e ns (set.Word keyword.Const) l s) (λ t z. rows_behind (joined row (Some (at t))) (read e ns part.Consts l z)) else Some (row, s))
+    → rows_behind row (consts_by e ns l s b) ≡ (if b then mend_then (one e ns (set.Word keyword.Const) l s)
+    (λ t z. rows_behind (joined row (Some (at t))) (read e ns part.Consts l z)) else Some (row, s))
 unfolding one rows_behind
 go_on e ns l s row true =
     let t : Token × Place = taken e l (is_in (set.Word keyword.Const) ns) s in
     seen_more (λ w. joined row (row_of w)) (λ w. t.0 ∷ w) (read e ns part.Consts l t.1)
-    ∙ seen_same (λ w. joined row (row_of (t.0 ∷ w))) (λ w. joined (joined row (Some (at t.0))) (row_of w)) (read e ns part.Consts l t.1) (λ w. sym (row_step row t.0 w))
+    ∙ seen_same (λ w. joined row (row_of (t.0 ∷ w))) (λ w. joined (joined row (Some (at t.0))) (row_of w)) (read e ns part.Consts l t.1)
+    (λ w. sym (row_step row t.0 w))
 go_on e ns l s row false = ap (λ r. Some (r, s)) (row_none row)
 
 pub consts_law : (e : ℕ) (ns : Names) (l : ℕ) (s : Place) (row : Option Span) → rows_behind row (read e ns part.Consts l s)
-    ≡ way ns (set.Word keyword.Const) s (mend_then (one e ns (set.Word keyword.Const) l s) (λ t z. rows_behind (joined row (Some (at t))) (read e ns part.Consts l z))) (Some (row, s))
+    ≡ way ns (set.Word keyword.Const) s (mend_then (one e ns (set.Word keyword.Const) l s)
+    (λ t z. rows_behind (joined row (Some (at t))) (read e ns part.Consts l z))) (Some (row, s))
 consts_law e ns l s row = ap (λ o. rows_behind row o) (consts_way e ns l s) ∙ go_on e ns l s row (is_next ns (set.Word keyword.Const) s)
 
 -- nothing in front

@@ -1,5 +1,6 @@
 -- The scope of a function, and how it ends.
-use Rattle.std.proofs.Common.{◌≡◌, ◌≢◌, ℕ, zero, suc, ◌-◌, ◌≤◌, ◌==◌, ◌&&◌, Bool, true, false, if◌then◌else◌, List, [], ◌∷◌, length, drop, Option, Some, None, refl, sym, ap, ◌∙◌, eqb-true, arith}
+use Rattle.std.proofs.Common.{◌≡◌, ◌≢◌, ℕ, zero, suc, ◌-◌, ◌≤◌, ◌==◌, ◌&&◌, Bool, true, false, if◌then◌else◌, List, [], ◌∷◌, length, drop, Option}
+use Rattle.std.proofs.Common.{Some, None, refl, sym, ap, ◌∙◌, eqb-true, arith}
 use Rattle.std.specs.List.{list_all}
 use Rattle.mending_readers.specs.Mending.{mend_then}
 use Rattle.c_lexer.specs.declared.token.Sign.TheVariants as sign
@@ -42,9 +43,11 @@ pub texts_end : (ns : Names) (ws : List (List ℕ)) → drop (length (with_texts
 texts_end ns [] = let e : length ns - length ns ≡ 0 = omega arith in ap (λ n. drop n ns) e
 texts_end ns (w ∷ ws) =
     let h = more (record { name = w; role = VariableName } ∷ ns) ws in
-    let e : length (with_texts (record { name = w; role = VariableName } ∷ ns) ws) - length ns ≡ suc (length (with_texts (record { name = w; role = VariableName } ∷ ns) ws) - suc (length ns)) = omega (arith, h) in
+    let e : length (with_texts (record { name = w; role = VariableName } ∷ ns) ws) - length ns
+    ≡ suc (length (with_texts (record { name = w; role = VariableName } ∷ ns) ws) - suc (length ns)) = omega (arith, h) in
     ap (λ n. drop n (with_texts (record { name = w; role = VariableName } ∷ ns) ws)) e
-    ∙ drop_next (length (with_texts (record { name = w; role = VariableName } ∷ ns) ws) - suc (length ns)) (with_texts (record { name = w; role = VariableName } ∷ ns) ws) (record { name = w; role = VariableName }) ns
+    ∙ drop_next (length (with_texts (record { name = w; role = VariableName } ∷ ns) ws) - suc (length ns))
+    (with_texts (record { name = w; role = VariableName } ∷ ns) ws) (record { name = w; role = VariableName }) ns
     (texts_end (record { name = w; role = VariableName } ∷ ns) ws)
 
 -- a function, by its block
@@ -52,11 +55,14 @@ abbrev made : Signature → part.tree_of part.BlockOf → Place → Read Item
 made x b y = Some (item.Function (record { signature = x; body = b }), y)
 
 -- what follows `)` of a function that is no prototype
-pub function_end : (e : ℕ) (ns : Names) (x : Signature) (ws : List (List ℕ)) (l : ℕ) (s z : Place) (b : part.tree_of part.BlockOf) → is_next ns (set.Sign sign.Semicolon) s ≡ false → named_texts x.parameters ≡ ws → l ≡ 0
-    → read e (with_texts ns ws) part.BlockOf 0 s ≡ Some (b, z) → piece.declared_end e ns true x l s ≡ Some (item.Function (record { signature = x; body = b }), z)
+pub function_end : (e : ℕ) (ns : Names) (x : Signature) (ws : List (List ℕ)) (l : ℕ) (s z : Place) (b : part.tree_of part.BlockOf)
+    → is_next ns (set.Sign sign.Semicolon) s ≡ false → named_texts x.parameters ≡ ws → l ≡ 0
+    → read e (with_texts ns ws) part.BlockOf 0 s ≡ Some (b, z)
+    → piece.declared_end e ns true x l s ≡ Some (item.Function (record { signature = x; body = b }), z)
 unfolding piece.declared_end
 function_end e ns x ws l s z b next named top h =
-    ap (λ c. if c then mend_then (one e ns (set.Sign sign.Semicolon) l s) (λ q y. Some (item.Prototype x, y)) else mend_then (read e (with_parameters ns x.parameters) part.BlockOf l s) (made x)) next
+    ap (λ c. if c then mend_then (one e ns (set.Sign sign.Semicolon) l s) (λ q y. Some (item.Prototype x, y))
+    else mend_then (read e (with_parameters ns x.parameters) part.BlockOf l s) (made x)) next
     ∙ ap (λ ms. mend_then (read e ms part.BlockOf l s) (made x)) (with_parameters_texts ns x.parameters ∙ ap (with_texts ns) named)
     ∙ ap (λ m. mend_then (read e (with_texts ns ws) part.BlockOf m s) (made x)) top
     ∙ ap (λ o. mend_then o (made x)) h
@@ -73,7 +79,8 @@ no_int ns c some = sym (go (is_an_int (meaning_of_base ns c.base)) (c.stars == 0
     go true b h = h
     go false b h = refl
 
-pub base_int : (ns : Names) (t : Token) (c : CType) → is_base_token t.terminal ≡ true → c.base ≡ tree.base_of t → c.stars ≡ 0 → is_in set.IntBase ns (kind t) ≡ is_int ns c
+pub base_int : (ns : Names) (t : Token) (c : CType) → is_base_token t.terminal ≡ true → c.base ≡ tree.base_of t → c.stars ≡ 0
+    → is_in set.IntBase ns (kind t) ≡ is_int ns c
 base_int ns t c h b plain = sym (int_law ns t c h b ∙ ap (λ (n : ℕ). is_in set.IntBase ns (kind t) && n == 0) plain ∙ go (is_in set.IntBase ns (kind t)))
   where
     go : (a : Bool) → (a && true) ≡ a
@@ -90,9 +97,11 @@ abbrev inner : ℕ → Names → Bool → CType → Token → ℕ → ℕ → Li
 inner e ns b c n from l ps y = mend_then (one e ns (set.Sign sign.CloseParen) l y) (last e ns b c n from l ps)
 
 -- what is declared as a function, up to `)`
-pub declared_steps : (e : ℕ) (ns : Names) (b : Bool) (c : CType) (n : Token) (from l : ℕ) (s z y w : Place) (o x : Token) (ps : List Parameter) → one e ns (set.Sign sign.OpenParen) (suc l) s ≡ Some (o, z)
+pub declared_steps : (e : ℕ) (ns : Names) (b : Bool) (c : CType) (n : Token) (from l : ℕ) (s z y w : Place) (o x : Token) (ps : List Parameter)
+    → one e ns (set.Sign sign.OpenParen) (suc l) s ≡ Some (o, z)
     → read e ns (part.ParametersOf (is_main n.bytes)) (suc l) z ≡ Some (ps, y) → one e ns (set.Sign sign.CloseParen) l y ≡ Some (x, w)
-    → read e ns (part.DeclaredOf b c n from) l s ≡ piece.declared_end e (declared (name_at n) FunctionName ∷ ns) (list_all has_name ps) (tree.signature b c n ps from x) l w
+    → read e ns (part.DeclaredOf b c n from) l s ≡ piece.declared_end e (declared (name_at n) FunctionName ∷ ns) (list_all has_name ps)
+    (tree.signature b c n ps from x) l w
 declared_steps e ns b c n from l s z y w o x ps opened inside closed =
     declared_law e ns b c n from l s
     ∙ ap (λ (r : Read Token). mend_then r (λ o z. mend_then (read e ns (part.ParametersOf (is_main n.bytes)) (suc l) z) (inner e ns b c n from l))) opened

@@ -18,12 +18,15 @@ items_from e l s ns line = read e ns (part.ItemsOf line) l s
 abbrev more_by : ℕ → Names → ℕ → Read Item → Read (List Item)
 more_by e ns l o = mend_then o (λ i z. first_then i (items_from e l z (with_item ns i) (is_include i)))
 
-by_next : (e : ℕ) (ns : Names) (line : Bool) (l : ℕ) (s : Place) (b : Bool) → is_next ns (set.Item line) s ≡ b → items_from e l s ns line ≡ (if b then more_by e ns l (read e ns (part.ItemOf line) l s) else Some ([], s))
+by_next : (e : ℕ) (ns : Names) (line : Bool) (l : ℕ) (s : Place) (b : Bool) → is_next ns (set.Item line) s ≡ b
+    → items_from e l s ns line ≡ (if b then more_by e ns l (read e ns (part.ItemOf line) l s) else Some ([], s))
 by_next e ns line l s b next = items_law e ns line l s ∙ ap (λ (c : Bool). if c then more_by e ns l (read e ns (part.ItemOf line) l s) else Some ([], s)) next
 
 -- one more item, and the scope behind it
-pub items_step : (e : ℕ) (ns ms : Names) (line next_line : Bool) (ys : List Item) (l : ℕ) (s z : Place) (i : Item) → is_next ns (set.Item line) s ≡ true → read e ns (part.ItemOf line) l s ≡ Some (i, z)
-    → ms ≡ with_item ns i → next_line ≡ is_include i → behind ys (read e ns (part.ItemsOf line) l s) ≡ behind (ys ++ i ∷ []) (read e ms (part.ItemsOf next_line) l z)
+pub items_step : (e : ℕ) (ns ms : Names) (line next_line : Bool) (ys : List Item) (l : ℕ) (s z : Place) (i : Item)
+    → is_next ns (set.Item line) s ≡ true → read e ns (part.ItemOf line) l s ≡ Some (i, z)
+    → ms ≡ with_item ns i → next_line ≡ is_include i → behind ys (read e ns (part.ItemsOf line) l s)
+    ≡ behind (ys ++ i ∷ []) (read e ms (part.ItemsOf next_line) l z)
 items_step e ns ms line next_line ys l s z i next h scope included =
     ap (behind ys) (by_next e ns line l s true next ∙ ap (more_by e ns l) h)
     ∙ behind_more ys i (items_from e l z (with_item ns i) (is_include i))
@@ -31,5 +34,6 @@ items_step e ns ms line next_line ys l s z i next h scope included =
     ∙ ap (λ (b : Bool). behind (ys ++ i ∷ []) (items_from e l z ms b)) (sym included)
 
 -- no more
-pub items_stop : (e : ℕ) (ns : Names) (line : Bool) (ys : List Item) (l : ℕ) (s : Place) → is_next ns (set.Item line) s ≡ false → behind ys (read e ns (part.ItemsOf line) l s) ≡ Some (ys, s)
+pub items_stop : (e : ℕ) (ns : Names) (line : Bool) (ys : List Item) (l : ℕ) (s : Place) → is_next ns (set.Item line) s ≡ false
+    → behind ys (read e ns (part.ItemsOf line) l s) ≡ Some (ys, s)
 items_stop e ns line ys l s next = ap (behind ys) (by_next e ns line l s false next) ∙ behind_end ys s

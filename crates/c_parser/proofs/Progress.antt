@@ -1,5 +1,6 @@
 -- What is left behind what is read.
-use Rattle.std.proofs.Common.{◌≡◌, ℕ, suc, ◌+◌, ◌<◌, ◌≤◌, Bool, true, false, List, [], ◌∷◌, ◌++◌, length, Option, Some, None, refl, sym, ap, subst, arith, length-append}
+use Rattle.std.proofs.Common.{◌≡◌, ℕ, suc, ◌+◌, ◌<◌, ◌≤◌, Bool, true, false, List, [], ◌∷◌, ◌++◌, length, Option, Some, None, refl, sym, ap, subst}
+use Rattle.std.proofs.Common.{arith, length-append}
 use Rattle.predictive_grammar.specs.Follows.{raw, Reads}
 use Rattle.predictive_grammar.specs.Reading.{reader}
 use Rattle.mending_readers.specs.Mending.{State, Going, Stopped, Mended, mender}
@@ -28,8 +29,10 @@ Split q l s a z = Splits C c_limits (λ rest t. Unit {0}) (Reads C forms None q 
 split : (e : ℕ) (ns : Names) (w : What) (l : ℕ) (s : Place) (a : tree_of w) (z : Place) → read e ns w l s ≡ Some (a, z) → Split (at ns w) l s a z
 unfolding read
 split e ns w l s a z h =
-    subst (λ (o : Mended Token (tree_of w)). Told C c_limits (λ rest t. Unit {0}) (Reads C forms None (at ns w) l) (reader C forms tables.top tables.rank c_limits (at ns w) l) s o) h
-    (mender_mends C c_limits (λ rest t. Unit {0}) (made_up e) (λ test before rest. tt) (λ rest t. tt) (λ rest t. refl) forms tables predictive (serves e) tallest (at ns w) l s)
+    subst (λ (o : Mended Token (tree_of w)). Told C c_limits (λ rest t. Unit {0}) (Reads C forms None (at ns w) l)
+    (reader C forms tables.top tables.rank c_limits (at ns w) l) s o) h
+    (mender_mends C c_limits (λ rest t. Unit {0}) (made_up e) (λ test before rest. tt) (λ rest t. tt) (λ rest t. refl) forms tables predictive
+    (serves e) tallest (at ns w) l s)
 
 -- no more tokens are left, and fewer where it goes on and the part has tokens
 pub stays : (e : ℕ) (ns : Names) (w : What) (l : ℕ) (s : Place) (a : tree_of w) (z : Place) → read e ns w l s ≡ Some (a, z) → room z ≤ room s
@@ -41,24 +44,30 @@ stays e ns w l s a z h = go s z (split e ns w l s a z h)
     go (Stopped i) (Going j) t = absurd t
     go (Stopped i) (Stopped j) t = omega (arith, ap length t.same)
 
-moves : (e : ℕ) (ns : Names) (w : What) (l : ℕ) (s : Place) (a : tree_of w) (z : Place) (some : tables.none (at ns w) a → ⊥) (ms : Names) (x : Set) → is_next ms x s ≡ true → read e ns w l s ≡ Some (a, z)
+moves : (e : ℕ) (ns : Names) (w : What) (l : ℕ) (s : Place) (a : tree_of w) (z : Place) (some : tables.none (at ns w) a → ⊥) (ms : Names) (x : Set)
+    → is_next ms x s ≡ true → read e ns w l s ≡ Some (a, z)
     → room z < room s
 unfolding is_next
 moves e ns w l s a z some ms x next h = go s z next (split e ns w l s a z h)
   where
     go : (s z : Place) → is_next ms x s ≡ true → Split (at ns w) l s a z → room z < room s
-    go (Going i) (Going j) n t = let less = steps.strict C forms tables predictive (at ns w) l i a j some (record { word = t.word; front = t.front; text = t.text }) in omega (arith, less)
+    go (Going i) (Going j) n t = let less = steps.strict C forms tables predictive (at ns w) l i a j some
+        (record { word = t.word; front = t.front; text = t.text }) in omega (arith, less)
     go (Going i) (Stopped j) n t = omega (arith, ap length t.front, length-append (raw t.taken) j)
     go (Stopped i) z n t = absurd cc
 
-pub any_type_moves : (e : ℕ) (ns : Names) (anyhow object : Bool) (l : ℕ) (s : Place) (a : CType) (z : Place) (ms : Names) (x : Set) → is_next ms x s ≡ true → read e ns (AnyType anyhow object) l s ≡ Some (a, z) → room z < room s
+pub any_type_moves : (e : ℕ) (ns : Names) (anyhow object : Bool) (l : ℕ) (s : Place) (a : CType) (z : Place) (ms : Names) (x : Set)
+    → is_next ms x s ≡ true → read e ns (AnyType anyhow object) l s ≡ Some (a, z) → room z < room s
 any_type_moves e ns anyhow object l s a z ms x n h = moves e ns (AnyType anyhow object) l s a z (λ x. x) ms x n h
 
-pub key_type_moves : (e : ℕ) (ns : Names) (l : ℕ) (s : Place) (a : CType) (z : Place) (ms : Names) (x : Set) → is_next ms x s ≡ true → read e ns KeyType l s ≡ Some (a, z) → room z < room s
+pub key_type_moves : (e : ℕ) (ns : Names) (l : ℕ) (s : Place) (a : CType) (z : Place) (ms : Names) (x : Set) → is_next ms x s ≡ true
+    → read e ns KeyType l s ≡ Some (a, z) → room z < room s
 key_type_moves e ns l s a z ms x n h = moves e ns KeyType l s a z (λ x. x) ms x n h
 
-pub statement_moves : (e : ℕ) (ns : Names) (l : ℕ) (s : Place) (a : Stmt) (z : Place) (ms : Names) (x : Set) → is_next ms x s ≡ true → read e ns Statement l s ≡ Some (a, z) → room z < room s
+pub statement_moves : (e : ℕ) (ns : Names) (l : ℕ) (s : Place) (a : Stmt) (z : Place) (ms : Names) (x : Set) → is_next ms x s ≡ true
+    → read e ns Statement l s ≡ Some (a, z) → room z < room s
 statement_moves e ns l s a z ms x n h = moves e ns Statement l s a z (λ x. x) ms x n h
 
-pub item_moves : (e : ℕ) (ns : Names) (line : Bool) (l : ℕ) (s : Place) (a : Item) (z : Place) (ms : Names) (x : Set) → is_next ms x s ≡ true → read e ns (ItemOf line) l s ≡ Some (a, z) → room z < room s
+pub item_moves : (e : ℕ) (ns : Names) (line : Bool) (l : ℕ) (s : Place) (a : Item) (z : Place) (ms : Names) (x : Set) → is_next ms x s ≡ true
+    → read e ns (ItemOf line) l s ≡ Some (a, z) → room z < room s
 item_moves e ns line l s a z ms x n h = moves e ns (ItemOf line) l s a z (λ x. x) ms x n h

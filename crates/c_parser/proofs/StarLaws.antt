@@ -49,7 +49,8 @@ count_all : (a : ℕ) → a + 0 ≡ a
 count_all a = omega arith
 
 pub with_more : (a : Stars) (t : Token) (u : Word) (k : Starred) → with_stars (with_star a t (row_of u)) k ≡ with_stars a (tree.one_star t u k)
-with_more a t u k = stars_same (a.count + 1 + k.stars) (a.count + suc k.stars) (joined (joined (joined a.row (Some (at t))) (row_of u)) (row_of k.word)) (joined a.row (row_of (t ∷ u ++ k.word)))
+with_more a t u k = stars_same (a.count + 1 + k.stars) (a.count + suc k.stars)
+    (joined (joined (joined a.row (Some (at t))) (row_of u)) (row_of k.word)) (joined a.row (row_of (t ∷ u ++ k.word)))
     (count_more a.count k.stars) (row_more a.row t u k.word)
 
 pub with_none : (k : Starred) → with_stars no_stars k ≡ stars_of k
@@ -68,7 +69,8 @@ free_must : (ns : Names) → Free (form ns (part.Stars true))
 unfolding form
 free_must ns = free_take (λ n b. refl) (λ t. free_part (λ u. free_part (λ k. free_give)))
 
-must_law : (e : ℕ) (ns : Names) (l : ℕ) (s : Place) → read e ns (part.Stars true) l s ≡ mend_then (one e ns (set.Sign sign.Star) l s) (λ t z. behind_star e ns l t z)
+must_law : (e : ℕ) (ns : Names) (l : ℕ) (s : Place) → read e ns (part.Stars true) l s
+    ≡ mend_then (one e ns (set.Sign sign.Star) l s) (λ t z. behind_star e ns l t z)
 unfolding run form one is_next read
 must_law e ns l s = by_form e ns (part.Stars true) l s (free_must ns)
 
@@ -82,7 +84,8 @@ unfolding run form one is_next read
 any_law e ns l s = by_form e ns (part.Stars false) l s (free_any ns)
 
 -- stars behind others, by what follows a star
-counted : (R : Place → Read Starred) (t : Token) (a : Stars) (o : Read Word) → stars_behind a (mend_then o (λ u x. mend_then (R x) (λ k w. Some (tree.one_star t u k, w))))
+counted : (R : Place → Read Starred) (t : Token) (a : Stars) (o : Read Word)
+    → stars_behind a (mend_then o (λ u x. mend_then (R x) (λ k w. Some (tree.one_star t u k, w))))
     ≡ mend_then (mend_then (seen_by row_of o) (λ r z. Some (with_star a t r, z))) (λ b y. stars_behind b (R y))
 unfolding stars_behind
 counted R t a None = refl
@@ -112,7 +115,8 @@ go_on e ns l s a true = star_go e ns l a (taken e l (is_in (set.Sign sign.Star) 
 go_on e ns l s a false = none_more a s
 
 pub stars_law : (e : ℕ) (ns : Names) (l : ℕ) (s : Place) (a : Stars) → stars_behind a (read e ns (part.Stars false) l s)
-    ≡ way ns (set.Sign sign.Star) s (mend_then (one e ns (set.Sign sign.Star) l s) (λ t z. mend_then (star_behind e ns a t l z) (λ b y. stars_behind b (read e ns (part.Stars false) l y)))) (Some (a, s))
+    ≡ way ns (set.Sign sign.Star) s (mend_then (one e ns (set.Sign sign.Star) l s)
+    (λ t z. mend_then (star_behind e ns a t l z) (λ b y. stars_behind b (read e ns (part.Stars false) l y)))) (Some (a, s))
 stars_law e ns l s a = ap (λ o. stars_behind a o) (any_law e ns l s) ∙ go_on e ns l s a (is_next ns (set.Sign sign.Star) s)
 
 pub must_stars_law : (e : ℕ) (ns : Names) (l : ℕ) (s : Place) (a : Stars) → stars_behind a (read e ns (part.Stars true) l s)

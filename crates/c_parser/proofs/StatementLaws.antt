@@ -1,5 +1,6 @@
 -- Statements by their steps.
-use Rattle.std.proofs.Common.{◌≡◌, ℕ, suc, Bool, true, false, if◌then◌else◌, List, [], ◌∷◌, ◌++◌, Option, Some, None, refl, sym, ap, ◌∙◌, append_assoc, append-nil}
+use Rattle.std.proofs.Common.{◌≡◌, ℕ, suc, Bool, true, false, if◌then◌else◌, List, [], ◌∷◌, ◌++◌, Option, Some, None, refl, sym, ap, ◌∙◌}
+use Rattle.std.proofs.Common.{append_assoc, append-nil}
 use Rattle.mending_readers.specs.Mending.{mend_then, mend_token, next_in}
 use Rattle.c_lexer.specs.declared.token.Keyword.TheVariants as keyword
 use Rattle.c_lexer.specs.declared.token.Sign.TheVariants as sign
@@ -27,20 +28,23 @@ use Rattle.c_grammar.specs.Grammar.{C, form, named_behind, just, here, where_tok
 use Rattle.c_cursor.specs.declared.sets.Set.TheVariants as set
 use Rattle.c_cursor.specs.Reading.{Read, Place, one, is_next, read, way, give}
 use Rattle.c_cursor.specs.Sets.{is_in}
-use Rattle.c_parser.specs.Pieces.{bracketed_of, is_address, value_inside, operand_of, prefixed_of, starred_of, row_behind, label_behind, named, with_cases, case_then, cases_then, default_of, else_of, if_behind, switch_behind, return_behind, word_stmt}
+use Rattle.c_parser.specs.Pieces.{bracketed_of, is_address, value_inside, operand_of, prefixed_of, starred_of, row_behind, label_behind, named}
+use Rattle.c_parser.specs.Pieces.{with_cases, case_then, cases_then, default_of, else_of, if_behind, switch_behind, return_behind, word_stmt}
 use Rattle.c_parser.specs.Statements.{star_behind}
 use Rattle.c_parser.proofs.Thens.{then_just, then_assoc, way_same}
 use Rattle.c_parser.proofs.Walks.{Free, free_give, free_take, free_part, free_pick, free_where, run, then_same, by_form}
 
 pub signed_law : (e : ℕ) (ns : Names) (l : ℕ) (s : Place) → read e ns part.SignedNumberOf l s
-    ≡ way ns (set.Sign sign.Minus) s (mend_then (one e ns (set.Sign sign.Minus) l s) (λ m z. mend_then (one e ns set.Number l z) (λ t y. Some (tree.signed true t, y))))
+    ≡ way ns (set.Sign sign.Minus) s (mend_then (one e ns (set.Sign sign.Minus) l s)
+    (λ m z. mend_then (one e ns set.Number l z) (λ t y. Some (tree.signed true t, y))))
     (mend_then (one e ns set.Number l s) (λ t z. Some (tree.signed false t, z)))
 unfolding run form one is_next
 signed_law e ns l s = by_form e ns part.SignedNumberOf l s
     (free_where (λ m. free_take (λ n b. refl) (λ t. free_give)) (free_take (λ n b. refl) (λ t. free_give)))
 
 pub goto_law : (e : ℕ) (ns : Names) (l : ℕ) (s : Place) → read e ns part.GotoOf l s
-    ≡ mend_then (one e ns (set.Word keyword.Goto) l s) (λ t z. mend_then (one e ns set.Name l z) (λ n y. mend_then (one e ns (set.Sign sign.Semicolon) l y) (λ x w. Some (n, w))))
+    ≡ mend_then (one e ns (set.Word keyword.Goto) l s) (λ t z. mend_then (one e ns set.Name l z)
+    (λ n y. mend_then (one e ns (set.Sign sign.Semicolon) l y) (λ x w. Some (n, w))))
 unfolding run form one
 goto_law e ns l s = by_form e ns part.GotoOf l s (free_take (λ n b. refl) (λ t. free_take (λ n b. refl) (λ n'. free_take (λ n b. refl) (λ x. free_give))))
 
@@ -54,7 +58,8 @@ free_named ns t (TypeName m) = free_label ns t
 free_named ns t (RowName false) =
     free_pick (free_label ns t) (free_take (λ n b. refl) (λ o. free_part (λ xs. free_take (λ n b. refl) (λ x. free_take (λ n b. refl) (λ q. free_give)))))
 free_named ns t (RowName true) =
-    free_pick (free_label ns t) (free_take (λ n b. refl) (λ o. free_part (λ c. free_part (λ xs. free_take (λ n b. refl) (λ x. free_take (λ n b. refl) (λ q. free_give))))))
+    free_pick (free_label ns t) (free_take (λ n b. refl) (λ o. free_part
+    (λ c. free_part (λ xs. free_take (λ n b. refl) (λ x. free_take (λ n b. refl) (λ q. free_give))))))
 free_named ns t VariableName = free_pick (free_label ns t) (free_part (λ x. free_give))
 free_named ns t FunctionName = free_pick (free_label ns t) (free_part (λ x. free_give))
 free_named ns t MemberName = free_pick (free_label ns t) (free_part (λ x. free_give))
@@ -65,9 +70,12 @@ unfolding run one is_next read named label_behind row_behind
 run_named e ns t (TypeName m) l s = refl
 run_named e ns t (RowName false) l s = refl
 run_named e ns t (RowName true) l s = refl
-run_named e ns t VariableName l s = way_same (next_in kind (on ns (sign_is sign.Colon)) s) refl (then_just (read e ns (part.ValueStmt (tree.name_value ns t)) l s))
-run_named e ns t FunctionName l s = way_same (next_in kind (on ns (sign_is sign.Colon)) s) refl (then_just (read e ns (part.ValueStmt (tree.name_value ns t)) l s))
-run_named e ns t MemberName l s = way_same (next_in kind (on ns (sign_is sign.Colon)) s) refl (then_just (read e ns (part.ValueStmt (tree.name_value ns t)) l s))
+run_named e ns t VariableName l s = way_same (next_in kind (on ns (sign_is sign.Colon)) s) refl
+    (then_just (read e ns (part.ValueStmt (tree.name_value ns t)) l s))
+run_named e ns t FunctionName l s = way_same (next_in kind (on ns (sign_is sign.Colon)) s) refl
+    (then_just (read e ns (part.ValueStmt (tree.name_value ns t)) l s))
+run_named e ns t MemberName l s = way_same (next_in kind (on ns (sign_is sign.Colon)) s) refl
+    (then_just (read e ns (part.ValueStmt (tree.name_value ns t)) l s))
 run_named e ns t Unknown l s = way_same (next_in kind (on ns (sign_is sign.Colon)) s) refl (then_just (read e ns (part.ValueStmt (tree.name_value ns t)) l s))
 
 pub named_law : (e : ℕ) (ns : Names) (t : Token) (l : ℕ) (s : Place) → read e ns (part.NamedStmt t) l s ≡ named e ns t (role_of ns t.bytes) l s
@@ -83,7 +91,8 @@ statement_law e ns l s = by_form e ns part.Statement l s (free_where (λ t. free
 -- 2. The cases of a `switch`
 
 pub cases_law : (e : ℕ) (ns : Names) (l : ℕ) (s : Place) → read e ns part.Cases l s
-    ≡ way ns (set.Word keyword.Case) s (mend_then (one e ns (set.Word keyword.Case) l s) (λ t z. mend_then (read e ns part.SignedNumberOf l z) (λ x y. mend_then (one e ns (set.Sign sign.Colon) l y)
+    ≡ way ns (set.Word keyword.Case) s (mend_then (one e ns (set.Word keyword.Case) l s)
+    (λ t z. mend_then (read e ns part.SignedNumberOf l z) (λ x y. mend_then (one e ns (set.Sign sign.Colon) l y)
     (λ c w. mend_then (read e ns part.GotoOf l w) (λ n v. case_then (tree.one_case x n) (read e ns part.Cases l v))))))
     (with_cases [] (default_of e ns l s))
 unfolding run form one is_next read case_then with_cases default_of
@@ -114,7 +123,8 @@ pub ruleset case_laws = (cases_law, cases_start, cases_more, cases_end)
 
 -- 3. Statements without a name in front
 
-pub star_law : (e : ℕ) (ns : Names) (p : PrefixOperator) (l : ℕ) (s : Place) → is_address p.prefix ≡ false → prefixed_of e ns false p l s ≡ starred_of e ns p l s
+pub star_law : (e : ℕ) (ns : Names) (p : PrefixOperator) (l : ℕ) (s : Place) → is_address p.prefix ≡ false
+    → prefixed_of e ns false p l s ≡ starred_of e ns p l s
 unfolding prefixed_of starred_of
 star_law e ns p l s h = ap (λ b. mend_then (operand_of e ns b false l s) (λ r z. Some (tree.with_prefixes (tree.one_prefix p r), z))) h
 
@@ -125,17 +135,23 @@ else_law e ns a b l s = by_form e ns (part.ElseOf a b) l s (free_where (λ t. fr
 -- the ways of PlainStmt that begin with a keyword
 abbrev word_form : (ns : Names) → Form C (at ns part.PlainStmt)
 word_form ns =
-    where_token ns (word_is keyword.If) (λ i. grammar.value_inside ns (λ a. pick (on ns (word_is keyword.Goto)) (just ns part.GotoOf (λ n. stmt.IfGoto a (name_at n))) (here ns part.BlockOf (λ b. just ns (part.ElseOf a b) (λ s. s)))))
+    where_token ns (word_is keyword.If) (λ i. grammar.value_inside ns
+    (λ a. pick (on ns (word_is keyword.Goto)) (just ns part.GotoOf (λ n. stmt.IfGoto a (name_at n)))
+    (here ns part.BlockOf (λ b. just ns (part.ElseOf a b) (λ s. s)))))
     (pick (on ns (word_is keyword.Goto)) (just ns part.GotoOf (λ n. stmt.Goto (name_at n)))
-    (where_token ns (word_is keyword.Switch) (λ i. grammar.value_inside ns (λ a. opening ns sign.OpenBrace (λ l. inner ns part.Cases (λ r. sign_here ns sign.CloseBrace (λ s. done (stmt.Switch a r.0 (name_at r.1)))))))
+    (where_token ns (word_is keyword.Switch) (λ i. grammar.value_inside ns
+    (λ a. opening ns sign.OpenBrace (λ l. inner ns part.Cases (λ r. sign_here ns sign.CloseBrace (λ s. done (stmt.Switch a r.0 (name_at r.1)))))))
     (token ns (word_is keyword.Return) (λ t.
-    where_token ns (sign_is sign.Semicolon) (λ e. done (stmt.Return (words.at t) None)) (here ns (part.Value false) (λ a. sign_here ns sign.Semicolon (λ e. done (stmt.Return (words.at t) (Some a)))))))))
+    where_token ns (sign_is sign.Semicolon) (λ e. done (stmt.Return (words.at t) None))
+    (here ns (part.Value false) (λ a. sign_here ns sign.Semicolon (λ e. done (stmt.Return (words.at t) (Some a)))))))))
 
 free_word : (ns : Names) → Free {r = at ns part.PlainStmt} (word_form ns)
 free_word ns =
-    free_where (λ i. free_take (λ n b. refl) (λ o. free_part (λ a. free_take (λ n b. refl) (λ x. free_pick (free_part (λ n. free_give)) (free_part (λ b. free_part (λ d. free_give)))))))
+    free_where (λ i. free_take (λ n b. refl) (λ o. free_part
+    (λ a. free_take (λ n b. refl) (λ x. free_pick (free_part (λ n. free_give)) (free_part (λ b. free_part (λ d. free_give)))))))
     (free_pick (free_part (λ n. free_give))
-    (free_where (λ i. free_take (λ n b. refl) (λ o. free_part (λ a. free_take (λ n b. refl) (λ x. free_take (λ n b. refl) (λ m. free_part (λ r. free_take (λ n b. refl) (λ y. free_give)))))))
+    (free_where (λ i. free_take (λ n b. refl) (λ o. free_part
+    (λ a. free_take (λ n b. refl) (λ x. free_take (λ n b. refl) (λ m. free_part (λ r. free_take (λ n b. refl) (λ y. free_give)))))))
     (free_take (λ n b. refl) (λ t. free_where (λ x. free_give) (free_part (λ a. free_take (λ n b. refl) (λ x. free_give)))))))
 
 free_plain : (ns : Names) → Free (form ns part.PlainStmt)
@@ -148,16 +164,19 @@ free_plain ns =
 
 -- what follows `if` and a value
 abbrev if_form : (ns : Names) → Expr → Form C (at ns part.PlainStmt)
-if_form ns a = pick (on ns (word_is keyword.Goto)) (just ns part.GotoOf (λ n. stmt.IfGoto a (name_at n))) (here ns part.BlockOf (λ b. just ns (part.ElseOf a b) (λ s. s)))
+if_form ns a = pick (on ns (word_is keyword.Goto)) (just ns part.GotoOf (λ n. stmt.IfGoto a (name_at n)))
+    (here ns part.BlockOf (λ b. just ns (part.ElseOf a b) (λ s. s)))
 
 run_if : (e : ℕ) (ns : Names) (a : Expr) (l : ℕ) (s : Place) → run e (if_form ns a) l s ≡ if_behind e ns a l s
 unfolding run is_next read if_behind
 run_if e ns a l s = way_same (next_in kind (on ns (word_is keyword.Goto)) s) refl
-    (then_same (read e ns part.BlockOf l s) (λ b y. mend_then (read e ns (part.ElseOf a b) l y) (λ x z. Some (x, z))) (λ b y. else_of e ns a b l y) (λ b y. then_just (read e ns (part.ElseOf a b) l y) ∙ else_law e ns a b l y))
+    (then_same (read e ns part.BlockOf l s) (λ b y. mend_then (read e ns (part.ElseOf a b) l y) (λ x z. Some (x, z))) (λ b y. else_of e ns a b l y)
+    (λ b y. then_just (read e ns (part.ElseOf a b) l y) ∙ else_law e ns a b l y))
 
 -- a value in brackets and what goes on with it
 inside_go : {D : Type 0} (e : ℕ) (ns : Names) (l : ℕ) (s : Place) (k : Expr → Place → Read D)
-    → mend_then (one e ns (set.Sign sign.OpenParen) (suc l) s) (λ o z. mend_then (read e ns (part.Value false) (suc l) z) (λ a y. mend_then (one e ns (set.Sign sign.CloseParen) l y) (λ x w. k a w)))
+    → mend_then (one e ns (set.Sign sign.OpenParen) (suc l) s)
+    (λ o z. mend_then (read e ns (part.Value false) (suc l) z) (λ a y. mend_then (one e ns (set.Sign sign.CloseParen) l y) (λ x w. k a w)))
     ≡ mend_then (value_inside e ns l s) k
 unfolding one value_inside
 inside_go e ns l s k =
@@ -165,21 +184,25 @@ inside_go e ns l s k =
     sym (then_assoc (read e ns (part.Value false) (suc l) z) (λ a y. mend_then (one e ns (set.Sign sign.CloseParen) l y) (λ x w. Some (a, w))) k)
 
 abbrev if_inside : ℕ → Names → ℕ → Place → Read Stmt
-if_inside e ns l s = mend_then (one e ns (set.Sign sign.OpenParen) (suc l) s) (λ o z. mend_then (read e ns (part.Value false) (suc l) z) (λ a y. mend_then (one e ns (set.Sign sign.CloseParen) l y) (λ x w. run e (if_form ns a) l w)))
+if_inside e ns l s = mend_then (one e ns (set.Sign sign.OpenParen) (suc l) s)
+    (λ o z. mend_then (read e ns (part.Value false) (suc l) z) (λ a y. mend_then (one e ns (set.Sign sign.CloseParen) l y) (λ x w. run e (if_form ns a) l w)))
 
 if_go : (e : ℕ) (ns : Names) (l : ℕ) (s : Place) → if_inside e ns l s ≡ mend_then (value_inside e ns l s) (λ a y. if_behind e ns a l y)
-if_go e ns l s = inside_go e ns l s (λ a w. run e (if_form ns a) l w) ∙ then_same (value_inside e ns l s) (λ a w. run e (if_form ns a) l w) (λ a w. if_behind e ns a l w) (λ a w. run_if e ns a l w)
+if_go e ns l s = inside_go e ns l s (λ a w. run e (if_form ns a) l w)
+    ∙ then_same (value_inside e ns l s) (λ a w. run e (if_form ns a) l w) (λ a w. if_behind e ns a l w) (λ a w. run_if e ns a l w)
 
 run_word : (e : ℕ) (ns : Names) (l : ℕ) (s : Place) → run e (word_form ns) l s ≡ word_stmt e ns l s
 unfolding run one is_next read word_stmt switch_behind return_behind
 run_word e ns l s =
     way_same (next_in kind (on ns (word_is keyword.If)) s) (if_go e ns l (mend_token C (made_up e) c_limits l 0 (is_in (set.Word keyword.If) ns) [] s).1)
     (way_same (next_in kind (on ns (word_is keyword.Goto)) s) refl
-    (way_same (next_in kind (on ns (word_is keyword.Switch)) s) (inside_go e ns l (mend_token C (made_up e) c_limits l 0 (is_in (set.Word keyword.Switch) ns) [] s).1 (λ a y. switch_behind e ns a l y)) refl))
+    (way_same (next_in kind (on ns (word_is keyword.Switch)) s)
+    (inside_go e ns l (mend_token C (made_up e) c_limits l 0 (is_in (set.Word keyword.Switch) ns) [] s).1 (λ a y. switch_behind e ns a l y)) refl))
 
 pub plain_law : (e : ℕ) (ns : Names) (l : ℕ) (s : Place) → read e ns part.PlainStmt l s
     ≡ way ns (set.Sign sign.Star) s (mend_then (one e ns (set.Sign sign.Star) l s) (λ t z. star_behind e ns t l z))
-    (way ns (set.Sign sign.OpenParen) s (mend_then (one e ns (set.Sign sign.OpenParen) (suc l) s) (λ t z. mend_then (bracketed_of e ns false t l z) (λ a y. read e ns (part.ValueStmt a) l y)))
+    (way ns (set.Sign sign.OpenParen) s (mend_then (one e ns (set.Sign sign.OpenParen) (suc l) s)
+    (λ t z. mend_then (bracketed_of e ns false t l z) (λ a y. read e ns (part.ValueStmt a) l y)))
     (way ns set.Unnamed s (mend_then (read e ns part.Unnamed l s) (λ a z. read e ns (part.ValueStmt a) l z))
     (way ns (set.Sign sign.OpenBrace) s (mend_then (read e ns part.BlockOf l s) (λ b z. Some (stmt.Block b, z))) (word_stmt e ns l s))))
 unfolding run form one is_next read star_behind starred_of bracketed_of

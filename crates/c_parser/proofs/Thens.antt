@@ -7,7 +7,8 @@ pub then_just : {A : Type 0} (o : Read A) → mend_then o (λ a z. Some (a, z)) 
 then_just None = refl
 then_just (Some x) = refl
 
-pub then_assoc : {A B D : Type 0} (o : Read A) (f : A → Place → Read B) (g : B → Place → Read D) → mend_then (mend_then o f) g ≡ mend_then o (λ a z. mend_then (f a z) g)
+pub then_assoc : {A B D : Type 0} (o : Read A) (f : A → Place → Read B) (g : B → Place → Read D)
+    → mend_then (mend_then o f) g ≡ mend_then o (λ a z. mend_then (f a z) g)
 then_assoc None f g = refl
 then_assoc (Some x) f g = refl
 

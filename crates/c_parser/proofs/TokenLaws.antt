@@ -24,7 +24,8 @@ use Rattle.c_parser.proofs.TypeLaws.{some_same}
 -- 1. Ways
 
 -- what goes on behind either of two ways
-pub way_then : {A B : Type 0} (b : Bool) (x y : Read A) (f : A → Place → Read B) → mend_then (if b then x else y) f ≡ (if b then mend_then x f else mend_then y f)
+pub way_then : {A B : Type 0} (b : Bool) (x y : Read A) (f : A → Place → Read B)
+    → mend_then (if b then x else y) f ≡ (if b then mend_then x f else mend_then y f)
 way_then true x y f = refl
 way_then false x y f = refl
 
@@ -101,4 +102,5 @@ pub role_bytes : (e : ℕ) (ns : Names) (test : Role → Bool) (l : ℕ) (s z : 
 role_bytes e ns test l s z t is took =
     let pair : taken e l (on ns (name_with test)) s ≡ (seen t, z) = some_same (taken e l (on ns (name_with test)) s) (seen t, z) took in
     let token : (taken e l (on ns (name_with test)) s).0 ≡ seen t = ap (λ (x : words.Token × Place). x.0) pair in
-    named_bytes t (is_name_with ns test (seen t) (ap (λ (x : words.Token). on ns (name_with test) (kind x)) (sym token) ∙ taken_kind e l (on ns (name_with test)) s is)).0
+    named_bytes t (is_name_with ns test (seen t) (ap (λ (x : words.Token). on ns (name_with test) (kind x)) (sym token)
+    ∙ taken_kind e l (on ns (name_with test)) s is)).0

@@ -1,5 +1,6 @@
 -- The tokens of bytes are in order, also where the name of an included file is one.
-use Rattle.std.proofs.Common.{◌≡◌, ◌∙◌, refl, sym, ap, subst, ℕ, zero, suc, ◌-◌, ◌+◌, ◌<◌, ◌≤◌, Bool, true, false, cond, ◌&&◌, ◌==◌, List, [], ◌∷◌, ◌++◌, length, take, drop, codes, Option, Some, None, Result, Ok, Err, nat_le, length-append, eqb-true, arith}
+use Rattle.std.proofs.Common.{◌≡◌, ◌∙◌, refl, sym, ap, subst, ℕ, zero, suc, ◌-◌, ◌+◌, ◌<◌, ◌≤◌, Bool, true, false, cond, ◌&&◌, ◌==◌, List, [], ◌∷◌}
+use Rattle.std.proofs.Common.{◌++◌, length, take, drop, codes, Option, Some, None, Result, Ok, Err, nat_le, length-append, eqb-true, arith}
 use Rattle.std.proofs.lemmas.List.{length-drop, length-take-le}
 use Rattle.std.proofs.lemmas.Bool.{cond_both}
 use Rattle.std.specs.Str.{bytes_eq}
@@ -14,7 +15,8 @@ use Rattle.c_lexer.specs.Cut.{cut}
 use Rattle.c_lexer.specs.Tokens.{Left, Lexeme, Answer, Tokens, end, broken, token, all_of, bad_token, begins_line, next_of, next_behind, found_at}
 use Rattle.c_lexer.proofs.NextLemmas.{TokenFound, token_found, token_ends, found_within, gap_within, broken_within}
 use Rattle.c_tree.specs.declared.unit.Include.TheVariants as include
-use Rattle.c_tree.specs.Words.{Token, Word, Named, named, side_by_side, system_file, own_file, file_at, is_file_name, Behind, Other, Hash, IncludeWord, Inside, is_hash, is_include, then_behind, file_behind, words_by, words_behind, words, start_of}
+use Rattle.c_tree.specs.Words.{Token, Word, Named, named, side_by_side, system_file, own_file, file_at, is_file_name, Behind, Other, Hash}
+use Rattle.c_tree.specs.Words.{IncludeWord, Inside, is_hash, is_include, then_behind, file_behind, words_by, words_behind, words, start_of}
 use Rattle.c_tree.specs.Answers.{ending}
 use Rattle.c_grammar.specs.Fronts.{end_of}
 use Rattle.c_parser.specs.Ordered.{InOrder}
@@ -49,7 +51,8 @@ token_stands l t h =
     let f : TokenFound l t = token_found l t h in
     let within = found_within l.bytes (l.at + f.gap.len) (begins_line l.at f.gap) f.found f.inside f.cut_is in
     let rest : length (drop (l.at + f.gap.len) l.bytes) ≡ length l.bytes - (l.at + f.gap.len) = length-drop (l.at + f.gap.len) l.bytes in
-    let text : length (take f.found.len (drop (l.at + f.gap.len) l.bytes)) ≡ f.found.len = length-take-le f.found.len (drop (l.at + f.gap.len) l.bytes) (omega (arith, within.1, rest)) in
+    let text : length (take f.found.len (drop (l.at + f.gap.len) l.bytes)) ≡ f.found.len =
+    length-take-le f.found.len (drop (l.at + f.gap.len) l.bytes) (omega (arith, within.1, rest)) in
     subst (Stands l.at) f.is ((omega arith, omega (arith, text)), omega (arith, text, within.0))
 
 -- where the next is no token, it stands behind what is in front of it, and in the bytes
@@ -60,11 +63,14 @@ bad_stands l b le h = by_blanks (blanks (drop l.at l.bytes)) refl h
     placed : (n : ℕ) → l.at ≤ n → n ≤ length l.bytes → ◌≡◌ {A = Answer} (Err (bad_token n)) (Err b) → (l.at ≤ b.at) × (b.at ≤ length l.bytes)
     placed n low high e = let same : bad_token n ≡ b = cc in subst (λ (x : BadToken). (l.at ≤ x.at) × (x.at ≤ length l.bytes)) same (low, high)
 
-    by_cut : (g : Gap) → l.at + g.len ≤ length l.bytes → (o : Option Found) → found_at l.bytes (l.at + g.len) (begins_line l.at g) o ≡ Err b → (l.at ≤ b.at) × (b.at ≤ length l.bytes)
+    by_cut : (g : Gap) → l.at + g.len ≤ length l.bytes → (o : Option Found) → found_at l.bytes (l.at + g.len) (begins_line l.at g) o ≡ Err b
+        → (l.at ≤ b.at) × (b.at ≤ length l.bytes)
     by_cut g i None h = placed (l.at + g.len) (omega arith) i h
     by_cut g i (Some f) h = absurd cc
 
-    by_end : (g : Gap) → l.at + g.len ≤ length l.bytes → (x : Bool) → cond x (Ok None) (found_at l.bytes (l.at + g.len) (begins_line l.at g) (cut (drop (l.at + g.len) l.bytes))) ≡ Err b → (l.at ≤ b.at) × (b.at ≤ length l.bytes)
+    by_end : (g : Gap) → l.at + g.len ≤ length l.bytes → (x : Bool)
+        → cond x (Ok None) (found_at l.bytes (l.at + g.len) (begins_line l.at g) (cut (drop (l.at + g.len) l.bytes))) ≡ Err b → (l.at ≤ b.at)
+        × (b.at ≤ length l.bytes)
     by_end g i true h = absurd cc
     by_end g i false h = by_cut g i (cut (drop (l.at + g.len) l.bytes)) h
 
@@ -115,7 +121,8 @@ abbrev Counted : Option Named → Type 0
 Counted None = Unit {0}
 Counted (Some m) = 0 < m.tokens
 
-by_bytes : (a b c d e : Bool) → Counted (cond a (named include.Glib 5) (cond b (named include.GlibObject 7) (cond c (named include.Gio 7) (cond d (named include.String 5) (cond e (named include.Stdlib 5) None)))))
+by_bytes : (a b c d e : Bool) → Counted (cond a (named include.Glib 5)
+    (cond b (named include.GlibObject 7) (cond c (named include.Gio 7) (cond d (named include.String 5) (cond e (named include.Stdlib 5) None)))))
 by_bytes true b c d e = omega arith
 by_bytes false true c d e = omega arith
 by_bytes false false true d e = omega arith
@@ -124,11 +131,13 @@ by_bytes false false false false true = omega arith
 by_bytes false false false false false = tt
 
 system_counted : (at : ℕ) (ts : List Lexeme) → Counted (system_file at ts)
-system_counted at ts = by_bytes (bytes_eq (side_by_side at (take 5 ts)) (codes "<glib.h>")) (bytes_eq (side_by_side at (take 7 ts)) (codes "<glib-object.h>")) (bytes_eq (side_by_side at (take 7 ts)) (codes "<gio/gio.h>"))
+system_counted at ts = by_bytes (bytes_eq (side_by_side at (take 5 ts)) (codes "<glib.h>"))
+    (bytes_eq (side_by_side at (take 7 ts)) (codes "<glib-object.h>")) (bytes_eq (side_by_side at (take 7 ts)) (codes "<gio/gio.h>"))
     (bytes_eq (side_by_side at (take 5 ts)) (codes "<string.h>")) (bytes_eq (side_by_side at (take 5 ts)) (codes "<stdlib.h>"))
 
 own_counted : (z : List ℕ) → Counted (own_file z)
-own_counted z = cond_both (is_file_name (take (length z - 2) z) && bytes_eq (drop (length z - 2) z) (codes ".h")) (named (include.Own (take (length z - 2) z)) 1) None Counted (λ e. omega arith) (λ e. tt)
+own_counted z = cond_both (is_file_name (take (length z - 2) z) && bytes_eq (drop (length z - 2) z) (codes ".h"))
+    (named (include.Own (take (length z - 2) z)) 1) None Counted (λ e. omega arith) (λ e. tt)
 
 kind_counted : (kind : TokenKind) (t : Lexeme) (ts : List Lexeme) → Counted (file_at kind t ts)
 kind_counted (k.Sign sign.Less) t ts = system_counted t.start (t ∷ ts)
@@ -171,7 +180,8 @@ sits_by (Some m) b t ts at n h r more =
     let here : Row t.start n (t ∷ ts) = ((omega arith, r.0.1), r.1) in (
       (r.0.0, omega (arith, side_some m.tokens t ts h r.1.0)),
       more _ (Inside (m.tokens - 1))
-          (subst (λ (x : ℕ). Row (t.start + length (side_by_side t.start (take x (t ∷ ts)))) n (drop (m.tokens - 1) ts)) (one_more m.tokens h) (side_row (suc (m.tokens - 1)) t.start n (t ∷ ts) here)),
+          (subst (λ (x : ℕ). Row (t.start + length (side_by_side t.start (take x (t ∷ ts)))) n (drop (m.tokens - 1) ts)) (one_more m.tokens h)
+          (side_row (suc (m.tokens - 1)) t.start n (t ∷ ts) here)),
     )
 
 words_sit : (b : Behind) (at n : ℕ) (ts : List Lexeme) → Row at n (passed b ts) → Sits at n (words_behind b ts)
@@ -181,10 +191,12 @@ words_sit IncludeWord at n [] r = r
 words_sit (Inside zero) at n [] r = r
 words_sit (Inside (suc x)) at n [] r = r
 words_sit (Inside (suc x)) at n (t ∷ ts) r = words_sit (Inside x) at n ts r
-words_sit (Inside zero) at n (t ∷ ts) r = sits_by (file_behind (Inside 0) t ts) (Inside 0) t ts at n (counted (Inside 0) t ts) r (λ to c q. words_sit c to n ts q)
+words_sit (Inside zero) at n (t ∷ ts) r = sits_by (file_behind (Inside 0) t ts) (Inside 0) t ts at n (counted (Inside 0) t ts) r
+    (λ to c q. words_sit c to n ts q)
 words_sit Other at n (t ∷ ts) r = sits_by (file_behind Other t ts) Other t ts at n (counted Other t ts) r (λ to c q. words_sit c to n ts q)
 words_sit Hash at n (t ∷ ts) r = sits_by (file_behind Hash t ts) Hash t ts at n (counted Hash t ts) r (λ to c q. words_sit c to n ts q)
-words_sit IncludeWord at n (t ∷ ts) r = sits_by (file_behind IncludeWord t ts) IncludeWord t ts at n (counted IncludeWord t ts) r (λ to c q. words_sit c to n ts q)
+words_sit IncludeWord at n (t ∷ ts) r = sits_by (file_behind IncludeWord t ts) IncludeWord t ts at n (counted IncludeWord t ts) r
+    (λ to c q. words_sit c to n ts q)
 
 first_sits : (at n : ℕ) (w : Word) → Sits at n w → at ≤ start_of n w
 first_sits at n [] h = h

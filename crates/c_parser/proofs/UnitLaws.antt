@@ -1,5 +1,6 @@
 -- What is read of a text, by where the reader is behind its items.
-use Rattle.std.proofs.Common.{◌≡◌, ℕ, suc, ◌<◌, ◌≤◌, Bool, true, false, nat_lt, if◌then◌else◌, List, [], ◌∷◌, ◌++◌, length, Option, Some, None, refl, sym, ap, subst, ◌∙◌, arith}
+use Rattle.std.proofs.Common.{◌≡◌, ℕ, suc, ◌<◌, ◌≤◌, Bool, true, false, nat_lt, if◌then◌else◌, List, [], ◌∷◌, ◌++◌, length, Option, Some, None, refl}
+use Rattle.std.proofs.Common.{sym, ap, subst, ◌∙◌, arith}
 use Rattle.std.proofs.lemmas.Bool.{lt-ltb, le-ltb}
 use Rattle.mending_readers.specs.Mending.{State, Going, Stopped, Mended}
 use Rattle.c_lexer.specs.declared.token.BadToken.{BadToken}
@@ -59,7 +60,8 @@ last_is (t ∷ w) = refl
 -- 2. Where the reader stops
 
 module _ (text : Word) (e : Ending) (order : (front rest : Word) → text ≡ front ++ rest → InOrder (start_of (end_of e) rest) front) where
-  stops_at : (is : List Item) (rest : Word) (s : Stop) (f : Fault) → f ≡ fault_at rest e → f.place ≡ start_of (end_of e) rest → (s.fault ≡ f) × (s.last ≡ last_before 0 f.place text) → StopsWith text e is rest → StopsAt text e is s
+  stops_at : (is : List Item) (rest : Word) (s : Stop) (f : Fault) → f ≡ fault_at rest e → f.place ≡ start_of (end_of e) rest → (s.fault ≡ f)
+      × (s.last ≡ last_before 0 f.place text) → StopsWith text e is rest → StopsAt text e is s
   stops_at is rest s f same place h w = record {
     rest = rest;
     stops = w;
@@ -74,8 +76,10 @@ place_at [] (Whole n) = refl
 place_at [] (Broken n) = refl
 
 -- what is read, by whether the reader has stopped, and what is left
-reads_to : (bytes : List ℕ) (text : Word) (bad : Option BadToken) (order : (front rest : Word) → text ≡ front ++ rest → InOrder (start_of (end_of (ending bytes bad)) rest) front)
-    → (is : List Item) (stopped : Bool) (w : Word) (o : Option Stop) → GivesItems text (ending bytes bad) is (state_at stopped w) → StopIs text o (stop_fault (length bytes) stopped w bad) → ReadsTo text (ending bytes bad) is o
+reads_to : (bytes : List ℕ) (text : Word) (bad : Option BadToken) (order : (front rest : Word) → text ≡ front ++ rest
+    → InOrder (start_of (end_of (ending bytes bad)) rest) front)
+    → (is : List Item) (stopped : Bool) (w : Word) (o : Option Stop) → GivesItems text (ending bytes bad) is (state_at stopped w)
+    → StopIs text o (stop_fault (length bytes) stopped w bad) → ReadsTo text (ending bytes bad) is o
 reads_to bytes text None order is false [] None g h = g
 reads_to bytes text None order is false [] (Some s) g h = absurd h
 reads_to bytes text None order is true [] (Some s) g h = stops_at text (Whole (length bytes)) order is [] s (syntax_at (length bytes)) refl refl h g
@@ -103,17 +107,20 @@ parsed bytes is stopped w o read stop =
       bad = bad_of (all_of bytes);
       lexed = lexed;
       reads = reads_to bytes text (bad_of (all_of bytes)) (in_order bytes (tokens_of (all_of bytes)) (bad_of (all_of bytes)) lexed) is stopped w o
-          (subst (λ (m : Mended Token (List Item)). Completes text e m) read (fronts_are_completed e (length bytes) (in_bytes bytes (tokens_of (all_of bytes)) (bad_of (all_of bytes)) lexed) text)) stop;
+          (subst (λ (m : Mended Token (List Item)). Completes text e m) read
+          (fronts_are_completed e (length bytes) (in_bytes bytes (tokens_of (all_of bytes)) (bad_of (all_of bytes)) lexed) text)) stop;
     }
 
 -- 3. What the functions of the code need
 
 -- the items and the stop, by the reader in front of them and behind them
-pub parsed_by : (bytes : List ℕ) (p q : Parser) (is : List Item) (o : Option Stop) → state p ≡ Going (words (tokens_of (all_of bytes))) → names_of p.names ≡ library_names → p.end ≡ length bytes → bad p.cursor ≡ bad_of (all_of bytes)
+pub parsed_by : (bytes : List ℕ) (p q : Parser) (is : List Item) (o : Option Stop) → state p ≡ Going (words (tokens_of (all_of bytes)))
+    → names_of p.names ≡ library_names → p.end ≡ length bytes → bad p.cursor ≡ bad_of (all_of bytes)
     → reads (ItemsOf false) 0 p ≡ Some (is, state q) → q.end ≡ p.end → bad q.cursor ≡ bad p.cursor
     → StopIs (words (tokens_of (all_of bytes))) o (stop_fault q.end q.is_stopped (rest q.cursor) (bad q.cursor)) → Parses bytes is o
 unfolding read
-parsed_by bytes p q is o begins scope ends stop h ends' stop' is_stop = parsed bytes is q.is_stopped (rest q.cursor) o (sym (first_read ∙ second_read ∙ third_read) ∙ h) by_all
+parsed_by bytes p q is o begins scope ends stop h ends' stop' is_stop =
+    parsed bytes is q.is_stopped (rest q.cursor) o (sym (first_read ∙ second_read ∙ third_read) ∙ h) by_all
   where
     first_read : reads (ItemsOf false) 0 p ≡ read (length bytes) (names_of p.names) (ItemsOf false) 0 (state p)
     first_read = ap (λ m. read m (names_of p.names) (ItemsOf false) 0 (state p)) ends
@@ -121,14 +128,16 @@ parsed_by bytes p q is o begins scope ends stop h ends' stop' is_stop = parsed b
     second_read : read (length bytes) (names_of p.names) (ItemsOf false) 0 (state p) ≡ read (length bytes) library_names (ItemsOf false) 0 (state p)
     second_read = ap (λ ns. read (length bytes) ns (ItemsOf false) 0 (state p)) scope
 
-    third_read : read (length bytes) library_names (ItemsOf false) 0 (state p) ≡ read (length bytes) library_names (ItemsOf false) 0 (Going (words (tokens_of (all_of bytes))))
+    third_read : read (length bytes) library_names (ItemsOf false) 0 (state p)
+        ≡ read (length bytes) library_names (ItemsOf false) 0 (Going (words (tokens_of (all_of bytes))))
     third_read = ap (λ s. read (length bytes) library_names (ItemsOf false) 0 s) begins
 
     by_end : StopIs (words (tokens_of (all_of bytes))) o (stop_fault (length bytes) q.is_stopped (rest q.cursor) (bad q.cursor))
     by_end = subst (λ (n : ℕ). StopIs (words (tokens_of (all_of bytes))) o (stop_fault n q.is_stopped (rest q.cursor) (bad q.cursor))) (ends' ∙ ends) is_stop
 
     by_all : StopIs (words (tokens_of (all_of bytes))) o (stop_fault (length bytes) q.is_stopped (rest q.cursor) (bad_of (all_of bytes)))
-    by_all = subst (λ (b : Option BadToken). StopIs (words (tokens_of (all_of bytes))) o (stop_fault (length bytes) q.is_stopped (rest q.cursor) b)) (stop' ∙ stop) by_end
+    by_all = subst (λ (b : Option BadToken). StopIs (words (tokens_of (all_of bytes))) o (stop_fault (length bytes) q.is_stopped (rest q.cursor) b))
+        (stop' ∙ stop) by_end
 
 -- where the last token in front of a place begins, by the next token
 pub last_high : (n place : ℕ) (w : Word) (t : Token) → place ≤ t.start → last_before n place (t ∷ w) ≡ n

@@ -19,10 +19,12 @@ made_by test n before = first_that kind test (made_signs n ++ made_words n ++ ma
 -- a form whose tokens are made up whatever stands before
 pub data Free {r : Part} : Form C r → Type 0 where
   free_give : {a : tree_of r.what} → Free (give a)
-  free_take : {up : ℕ → ℕ} {test : Kind → Bool} {k : Token → Form C r} → ((n : ℕ) (before : Word) → made_by test n before ≡ made_by test n []) → ((t : Token) → Free (k t)) → Free (take up 0 test k)
+  free_take : {up : ℕ → ℕ} {test : Kind → Bool} {k : Token → Form C r} → ((n : ℕ) (before : Word) → made_by test n before ≡ made_by test n [])
+      → ((t : Token) → Free (k t)) → Free (take up 0 test k)
   free_part : {up : ℕ → ℕ} {q : Part} {k : tree_of q.what → Form C r} → ((b : tree_of q.what) → Free (k b)) → Free (part up q k)
   free_pick : {test : Kind → Bool} {a b : Form C r} → Free a → Free b → Free (pick test a b)
-  free_where : {up : ℕ → ℕ} {test : Kind → Bool} {k : Token → Form C r} {b : Form C r} → ((t : Token) → Free (k t)) → Free b → Free (pick test (take up 0 test k) b)
+  free_where : {up : ℕ → ℕ} {test : Kind → Bool} {k : Token → Form C r} {b : Form C r} → ((t : Token) → Free (k t)) → Free b
+      → Free (pick test (take up 0 test k) b)
 
 -- a form, each token as if nothing stood before
 unfoldable pub run : (e : ℕ) {r : Part} → Form C r → ℕ → Place → Read (tree_of r.what)
@@ -41,16 +43,19 @@ pub token_same : (e l : ℕ) (test : Kind → Bool) (before : Word) (s : Place) 
 token_same e l test before (Going []) h = ap (λ t. (t, Stopped [])) (h (behind_stop e []) before)
 token_same e l test before (Going (t ∷ ts)) h = go (test (kind t))
   where
-    go : (b : Bool) → (if b then take_below C (made_up e) c_limits l 0 t ts else make C (made_up e) test before (t ∷ ts)) ≡ (if b then take_below C (made_up e) c_limits l 0 t ts else make C (made_up e) test [] (t ∷ ts))
+    go : (b : Bool) → (if b then take_below C (made_up e) c_limits l 0 t ts else make C (made_up e) test before (t ∷ ts))
+        ≡ (if b then take_below C (made_up e) c_limits l 0 t ts else make C (made_up e) test [] (t ∷ ts))
     go true = refl
     go false = ap (λ x. (x, Stopped (t ∷ ts))) (h (behind_stop e (t ∷ ts)) before)
 token_same e l test before (Stopped ts) h = ap (λ x. (x, Stopped ts)) (h (behind_stop e ts) before)
 
-where_same : (e l : ℕ) (test : Kind → Bool) (before : Word) (s : Place) → next_in kind test s ≡ true → mend_token C (made_up e) c_limits l 0 test before s ≡ mend_token C (made_up e) c_limits l 0 test [] s
+where_same : (e l : ℕ) (test : Kind → Bool) (before : Word) (s : Place) → next_in kind test s ≡ true
+    → mend_token C (made_up e) c_limits l 0 test before s ≡ mend_token C (made_up e) c_limits l 0 test [] s
 where_same e l test before (Going []) h = absurd cc
 where_same e l test before (Going (t ∷ ts)) h = go (test (kind t)) h
   where
-    go : (b : Bool) → b ≡ true → (if b then take_below C (made_up e) c_limits l 0 t ts else make C (made_up e) test before (t ∷ ts)) ≡ (if b then take_below C (made_up e) c_limits l 0 t ts else make C (made_up e) test [] (t ∷ ts))
+    go : (b : Bool) → b ≡ true → (if b then take_below C (made_up e) c_limits l 0 t ts else make C (made_up e) test before (t ∷ ts))
+        ≡ (if b then take_below C (made_up e) c_limits l 0 t ts else make C (made_up e) test [] (t ∷ ts))
     go true is = refl
     go false is = absurd cc
 where_same e l test before (Stopped ts) h = absurd cc
@@ -65,22 +70,28 @@ free_walk e {r = r} (free_take {up = up} {test = test} {k = k} h free) before l 
     ∙ free_walk e (free (mend_token C (made_up e) c_limits (up l) 0 test [] s).0) _ l (mend_token C (made_up e) c_limits (up l) 0 test [] s).1
 free_walk e (free_part {up = up} {q = q} {k = k} free) before l s =
     then_same (c_mender e c_limits q (up l) s) _ _ (λ b z. free_walk e (free b) before l z)
-free_walk e {r = r} (free_pick {test = test} {a = a} {b = b} first second) before l s = go (next_in kind test s) (free_walk e first before l s) (free_walk e second before l s)
+free_walk e {r = r} (free_pick {test = test} {a = a} {b = b} first second) before l s =
+    go (next_in kind test s) (free_walk e first before l s) (free_walk e second before l s)
   where
-    go : (c : Bool) → mend_walk C (made_up e) (c_mender e c_limits) c_limits r a before l s ≡ run e a l s → mend_walk C (made_up e) (c_mender e c_limits) c_limits r b before l s ≡ run e b l s
-        → (if c then mend_walk C (made_up e) (c_mender e c_limits) c_limits r a before l s else mend_walk C (made_up e) (c_mender e c_limits) c_limits r b before l s)
+    go : (c : Bool) → mend_walk C (made_up e) (c_mender e c_limits) c_limits r a before l s ≡ run e a l s
+        → mend_walk C (made_up e) (c_mender e c_limits) c_limits r b before l s ≡ run e b l s
+        → (if c then mend_walk C (made_up e) (c_mender e c_limits) c_limits r a before l s
+        else mend_walk C (made_up e) (c_mender e c_limits) c_limits r b before l s)
         ≡ (if c then run e a l s else run e b l s)
     go true h g = h
     go false h g = g
 free_walk e {r = r} (free_where {up = up} {test = test} {k = k} {b = b} first second) before l s =
-    go (next_in kind test s) refl (free_walk e (first (mend_token C (made_up e) c_limits (up l) 0 test [] s).0) ((mend_token C (made_up e) c_limits (up l) 0 test [] s).0 ∷ before) l (mend_token C (made_up e) c_limits (up l) 0 test [] s).1)
+    go (next_in kind test s) refl (free_walk e (first (mend_token C (made_up e) c_limits (up l) 0 test [] s).0)
+    ((mend_token C (made_up e) c_limits (up l) 0 test [] s).0 ∷ before) l (mend_token C (made_up e) c_limits (up l) 0 test [] s).1)
     (free_walk e second before l s)
   where
     go : (c : Bool) → next_in kind test s ≡ c
-        → mend_walk C (made_up e) (c_mender e c_limits) c_limits r (k (mend_token C (made_up e) c_limits (up l) 0 test [] s).0) ((mend_token C (made_up e) c_limits (up l) 0 test [] s).0 ∷ before) l (mend_token C (made_up e) c_limits (up l) 0 test [] s).1
+        → mend_walk C (made_up e) (c_mender e c_limits) c_limits r (k (mend_token C (made_up e) c_limits (up l) 0 test [] s).0)
+        ((mend_token C (made_up e) c_limits (up l) 0 test [] s).0 ∷ before) l (mend_token C (made_up e) c_limits (up l) 0 test [] s).1
         ≡ run e (k (mend_token C (made_up e) c_limits (up l) 0 test [] s).0) l (mend_token C (made_up e) c_limits (up l) 0 test [] s).1
         → mend_walk C (made_up e) (c_mender e c_limits) c_limits r b before l s ≡ run e b l s
-        → (if c then mend_walk C (made_up e) (c_mender e c_limits) c_limits r (take up 0 test k) before l s else mend_walk C (made_up e) (c_mender e c_limits) c_limits r b before l s)
+        → (if c then mend_walk C (made_up e) (c_mender e c_limits) c_limits r (take up 0 test k) before l s
+        else mend_walk C (made_up e) (c_mender e c_limits) c_limits r b before l s)
         ≡ (if c then run e (take up 0 test k) l s else run e b l s)
     go true is h g = ap (λ x. mend_walk C (made_up e) (c_mender e c_limits) c_limits r (k x.0) (x.0 ∷ before) l x.1) (where_same e (up l) test before s is) ∙ h
     go false is h g = g

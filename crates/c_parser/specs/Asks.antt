@@ -20,7 +20,8 @@ Told a l p (Ok r) q = ⊥
 Told a l p (Err e) q = Unit {0}
 
 -- a function value that reads what stands at a level or deeper
-pub record Nests (least : ℕ) (pre : MutBor Parser → ℕ → Ask → Type 0) (post : MutBor Parser → ℕ → Ask → Result Reply NoMemory → MutBor Parser → Type 0) : Type 0 where
+pub record Nests (least : ℕ) (pre : MutBor Parser → ℕ → Ask → Type 0) (post : MutBor Parser → ℕ → Ask → Result Reply NoMemory → MutBor Parser
+    → Type 0) : Type 0 where
   pub callable : (old : MutBor Parser) (level : ℕ) (a : Ask) → least ≤ level → level < 65 → pre old level a
   pub reads : (old new : MutBor Parser) (level : ℕ) (a : Ask) (r : Result Reply NoMemory) → post old level a r new → Told a level old.now r new.now
   pub names : (old new : MutBor Parser) (level : ℕ) (a : Ask) (x : Reply) → post old level a (Ok x) new → names_of new.now.names ≡ names_of old.now.names

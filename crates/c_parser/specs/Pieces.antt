@@ -40,23 +40,27 @@ use Rattle.c_cursor.specs.Sets.{is_info}
 -- what follows these `const` and this base
 unfoldable pub type_rest : ℕ → Names → Option Span → Token → Bool → ℕ → Place → Read CType
 type_rest e ns b t must l s =
-    mend_then (seen_by row_of (read e ns part.Consts l s)) (λ v z. mend_then (seen_by stars_of (read e ns (part.Stars must) l z)) (λ k y. Some (type_in_rows b t v k, y)))
+    mend_then (seen_by row_of (read e ns part.Consts l s)) (λ v z. mend_then (seen_by stars_of (read e ns (part.Stars must) l z))
+    (λ k y. Some (type_in_rows b t v k, y)))
 
 -- the same where there is something
 unfoldable pub type_more : ℕ → Names → Option Span → Token → ℕ → Place → Read CType
 type_more e ns b t l s =
-    mend_then (seen_by row_of (read e ns part.Consts l s)) (λ v z. mend_then (seen_by stars_of (read e ns (part.Stars (not (is_some v))) l z)) (λ k y. Some (type_in_rows b t v k, y)))
+    mend_then (seen_by row_of (read e ns part.Consts l s)) (λ v z. mend_then (seen_by stars_of (read e ns (part.Stars (not (is_some v))) l z))
+    (λ k y. Some (type_in_rows b t v k, y)))
 
 -- 2. Values
 
 -- a value and the bracket behind it, of which this is the one in front
 unfoldable pub bracketed_of : ℕ → Names → Bool → Token → ℕ → Place → Read Expr
-bracketed_of e ns c t l s = mend_then (read e ns (part.Value c) (suc l) s) (λ a z. mend_then (one e ns (set.Sign sign.CloseParen) l z) (λ x y. Some (bracketed (join (at t) (at x)) a, y)))
+bracketed_of e ns c t l s = mend_then (read e ns (part.Value c) (suc l) s)
+    (λ a z. mend_then (one e ns (set.Sign sign.CloseParen) l z) (λ x y. Some (bracketed (join (at t) (at x)) a, y)))
 
 -- a value in brackets
 unfoldable pub value_inside : ℕ → Names → ℕ → Place → Read Expr
 value_inside e ns l s =
-    mend_then (one e ns (set.Sign sign.OpenParen) (suc l) s) (λ o z. mend_then (read e ns (part.Value false) (suc l) z) (λ a y. mend_then (one e ns (set.Sign sign.CloseParen) l y) (λ x w. Some (a, w))))
+    mend_then (one e ns (set.Sign sign.OpenParen) (suc l) s)
+    (λ o z. mend_then (read e ns (part.Value false) (suc l) z) (λ a y. mend_then (one e ns (set.Sign sign.CloseParen) l y) (λ x w. Some (a, w))))
 
 -- whether an operator is `&`
 abbrev pub is_address : Prefix → Bool
@@ -81,13 +85,17 @@ starred_of e ns p l s = mend_then (read e ns (part.Prefixed false) l s) (λ r z.
 -- what follows the name of a function of the library, which takes a type first or not
 unfoldable pub row_behind : ℕ → Names → Option Expr → Token → Bool → ℕ → Place → Read Stmt
 row_behind e ns b n false l s = mend_then (one e ns (set.Sign sign.OpenParen) (suc l) s) (λ o z. mend_then (read e ns part.Arguments (suc l) z) (λ xs y.
-    mend_then (one e ns (set.Sign sign.CloseParen) l y) (λ x w. mend_then (one e ns (set.Sign sign.Semicolon) l w) (λ q v. Some (tree.call_stmt b (tree.row_call n None xs x), v)))))
-row_behind e ns b n true l s = mend_then (one e ns (set.Sign sign.OpenParen) (suc l) s) (λ o z. mend_then (read e ns (part.AnyType true true) (suc l) z) (λ c u. mend_then (read e ns part.MoreArguments (suc l) u) (λ xs y.
-    mend_then (one e ns (set.Sign sign.CloseParen) l y) (λ x w. mend_then (one e ns (set.Sign sign.Semicolon) l w) (λ q v. Some (tree.call_stmt b (tree.row_call n (Some c) xs x), v))))))
+    mend_then (one e ns (set.Sign sign.CloseParen) l y) (λ x w. mend_then (one e ns (set.Sign sign.Semicolon) l w)
+    (λ q v. Some (tree.call_stmt b (tree.row_call n None xs x), v)))))
+row_behind e ns b n true l s = mend_then (one e ns (set.Sign sign.OpenParen) (suc l) s)
+    (λ o z. mend_then (read e ns (part.AnyType true true) (suc l) z) (λ c u. mend_then (read e ns part.MoreArguments (suc l) u) (λ xs y.
+    mend_then (one e ns (set.Sign sign.CloseParen) l y) (λ x w. mend_then (one e ns (set.Sign sign.Semicolon) l w)
+    (λ q v. Some (tree.call_stmt b (tree.row_call n (Some c) xs x), v))))))
 
 -- `:` and `;` behind the name of a label
 unfoldable pub label_behind : ℕ → Names → Token → ℕ → Place → Read Stmt
-label_behind e ns t l s = mend_then (one e ns (set.Sign sign.Colon) l s) (λ c z. mend_then (one e ns (set.Sign sign.Semicolon) l z) (λ x y. Some (stmt.Label (name_at t), y)))
+label_behind e ns t l s = mend_then (one e ns (set.Sign sign.Colon) l s)
+    (λ c z. mend_then (one e ns (set.Sign sign.Semicolon) l z) (λ x y. Some (stmt.Label (name_at t), y)))
 
 -- whether a name of this role is a function of the library, and whether it takes a type first
 abbrev pub takes_type : Role → Option Bool
@@ -117,19 +125,24 @@ cases_then cs o = give (λ r. (cs ++ r.0, r.1)) o
 
 -- the `default` of a `switch`
 unfoldable pub default_of : ℕ → Names → ℕ → Place → Read Token
-default_of e ns l s = mend_then (one e ns (set.Word keyword.Default) l s) (λ d z. mend_then (one e ns (set.Sign sign.Colon) l z) (λ c y. read e ns part.GotoOf l y))
+default_of e ns l s = mend_then (one e ns (set.Word keyword.Default) l s)
+    (λ d z. mend_then (one e ns (set.Sign sign.Colon) l z) (λ c y. read e ns part.GotoOf l y))
 
 -- what follows `if`, a value and a block
 unfoldable pub else_of : ℕ → Names → Expr → part.tree_of part.BlockOf → ℕ → Place → Read Stmt
-else_of e ns a b l s = way ns (set.Word keyword.Else) s (mend_then (one e ns (set.Word keyword.Else) l s) (λ x z. mend_then (read e ns part.BlockOf l z) (λ d y. Some (stmt.If a b (Some d), y)))) (Some (stmt.If a b None, s))
+else_of e ns a b l s = way ns (set.Word keyword.Else) s (mend_then (one e ns (set.Word keyword.Else) l s)
+    (λ x z. mend_then (read e ns part.BlockOf l z) (λ d y. Some (stmt.If a b (Some d), y)))) (Some (stmt.If a b None, s))
 
 -- what follows `if` and a value
 unfoldable pub if_behind : ℕ → Names → Expr → ℕ → Place → Read Stmt
-if_behind e ns a l s = way ns (set.Word keyword.Goto) s (mend_then (read e ns part.GotoOf l s) (λ n z. Some (stmt.IfGoto a (name_at n), z))) (mend_then (read e ns part.BlockOf l s) (λ b z. else_of e ns a b l z))
+if_behind e ns a l s = way ns (set.Word keyword.Goto) s (mend_then (read e ns part.GotoOf l s) (λ n z. Some (stmt.IfGoto a (name_at n), z)))
+    (mend_then (read e ns part.BlockOf l s) (λ b z. else_of e ns a b l z))
 
 -- what follows `switch` and a value
 unfoldable pub switch_behind : ℕ → Names → Expr → ℕ → Place → Read Stmt
-switch_behind e ns a l s = mend_then (one e ns (set.Sign sign.OpenBrace) (suc l) s) (λ o z. mend_then (read e ns part.Cases (suc l) z) (λ r y. mend_then (one e ns (set.Sign sign.CloseBrace) l y) (λ x w. Some (stmt.Switch a r.0 (name_at r.1), w))))
+switch_behind e ns a l s = mend_then (one e ns (set.Sign sign.OpenBrace) (suc l) s)
+    (λ o z. mend_then (read e ns part.Cases (suc l) z) (λ r y. mend_then (one e ns (set.Sign sign.CloseBrace) l y)
+    (λ x w. Some (stmt.Switch a r.0 (name_at r.1), w))))
 
 -- what follows `return`
 unfoldable pub return_behind : ℕ → Names → Token → ℕ → Place → Read Stmt
@@ -141,7 +154,8 @@ unfoldable pub word_stmt : ℕ → Names → ℕ → Place → Read Stmt
 word_stmt e ns l s =
     way ns (set.Word keyword.If) s (mend_then (one e ns (set.Word keyword.If) l s) (λ i z. mend_then (value_inside e ns l z) (λ a y. if_behind e ns a l y)))
     (way ns (set.Word keyword.Goto) s (mend_then (read e ns part.GotoOf l s) (λ n z. Some (stmt.Goto (name_at n), z)))
-    (way ns (set.Word keyword.Switch) s (mend_then (one e ns (set.Word keyword.Switch) l s) (λ i z. mend_then (value_inside e ns l z) (λ a y. switch_behind e ns a l y)))
+    (way ns (set.Word keyword.Switch) s (mend_then (one e ns (set.Word keyword.Switch) l s)
+    (λ i z. mend_then (value_inside e ns l z) (λ a y. switch_behind e ns a l y)))
     (mend_then (one e ns (set.Word keyword.Return) l s) (λ t z. return_behind e ns t l z))))
 
 -- 4. Blocks
@@ -221,12 +235,14 @@ named_texts (p ∷ ps) = text_then p.name (named_texts ps)
 
 -- the braces of a table, behind `=`
 unfoldable pub table_behind : ℕ → Names → Token → ℕ → Place → Read Item
-table_behind e ns n l s = mend_then (one e ns (set.Sign sign.OpenBrace) (suc l) s) (λ o z. mend_then (read e ns part.TableInside (suc l) z) (λ g y. mend_then (one e ns (set.Sign sign.CloseBrace) l y)
+table_behind e ns n l s = mend_then (one e ns (set.Sign sign.OpenBrace) (suc l) s)
+    (λ o z. mend_then (read e ns part.TableInside (suc l) z) (λ g y. mend_then (one e ns (set.Sign sign.CloseBrace) l y)
     (λ x w. mend_then (one e ns (set.Sign sign.Semicolon) l w) (λ q v. Some (item.InterfaceTable (record { name = name_at n; init = name_at g }), v)))))
 
 -- the value of a static variable, behind `=`
 unfoldable pub variable_behind : ℕ → Names → CType → Token → ℕ → Place → Read Item
-variable_behind e ns c n l s = mend_then (read e ns (part.Value true) l s) (λ a z. mend_then (one e ns (set.Sign sign.Semicolon) l z) (λ x y. Some (item.Variable (record { declared = c; name = name_at n; value = a }), y)))
+variable_behind e ns c n l s = mend_then (read e ns (part.Value true) l s)
+    (λ a z. mend_then (one e ns (set.Sign sign.Semicolon) l z) (λ x y. Some (item.Variable (record { declared = c; name = name_at n; value = a }), y)))
 
 -- what follows `=` behind the name of a static item, which may be a table or not
 abbrev pub value_behind : ℕ → Names → Bool → CType → Token → ℕ → Place → Read Item
@@ -237,7 +253,8 @@ unfoldable pub static_end : ℕ → Names → Token → CType → Bool → ℕ �
 static_end e ns t c may l s = mend_then (one e ns (set.FreeName (is_object c)) l s) (λ n z.
     if is_object c
     then (if is_main n.bytes then mend_then (one e ns (set.Sign sign.Assign) l z) (λ a y. value_behind e ns may c n l y)
-    else way ns (set.Sign sign.Assign) z (mend_then (one e ns (set.Sign sign.Assign) l z) (λ a y. value_behind e ns may c n l y)) (read e ns (part.DeclaredOf true c n t.start) l z))
+    else way ns (set.Sign sign.Assign) z (mend_then (one e ns (set.Sign sign.Assign) l z) (λ a y. value_behind e ns may c n l y))
+    (read e ns (part.DeclaredOf true c n t.start) l z))
     else read e ns (part.DeclaredOf true c n t.start) l z)
 
 -- the type of a static item, from its base on
@@ -260,30 +277,39 @@ tag_named e g l s = Some (mend_token C (made_up e) c_limits l 0 (is_name_of (tre
 
 -- `_X X;`
 unfoldable pub struct_type : ℕ → Names → ℕ → Place → Read Item
-struct_type e ns l s = mend_then (one e ns set.Tag l s) (λ g z. mend_then (tag_named e g l z) (λ n y. mend_then (one e ns (set.Sign sign.Semicolon) l y) (λ q w. Some (item.StructType (name_at n), w))))
+struct_type e ns l s = mend_then (one e ns set.Tag l s) (λ g z. mend_then (tag_named e g l z)
+    (λ n y. mend_then (one e ns (set.Sign sign.Semicolon) l y) (λ q w. Some (item.StructType (name_at n), w))))
 
 -- `{ members } X;`
 unfoldable pub enumeration : ℕ → Names → ℕ → Place → Read Item
-enumeration e ns l s = mend_then (one e ns (set.Sign sign.OpenBrace) (suc l) s) (λ o z. mend_then (read e ns part.Members (suc l) z) (λ ms y. mend_then (one e ns (set.Sign sign.CloseBrace) l y)
-    (λ x w. mend_then (one e ns set.Name l w) (λ n v. mend_then (one e ns (set.Sign sign.Semicolon) l v) (λ q u. Some (item.Enumeration (record { members = ms; name = name_at n }), u))))))
+enumeration e ns l s = mend_then (one e ns (set.Sign sign.OpenBrace) (suc l) s)
+    (λ o z. mend_then (read e ns part.Members (suc l) z) (λ ms y. mend_then (one e ns (set.Sign sign.CloseBrace) l y)
+    (λ x w. mend_then (one e ns set.Name l w) (λ n v. mend_then (one e ns (set.Sign sign.Semicolon) l v)
+    (λ q u. Some (item.Enumeration (record { members = ms; name = name_at n }), u))))))
 
 -- `R (*F) (parameters);`
 unfoldable pub function_type : ℕ → Names → Token → ℕ → Place → Read Item
-function_type e ns t l s = mend_then (read e ns (part.AnyType true false) l s) (λ r z. mend_then (one e ns (set.Sign sign.OpenParen) (suc l) z) (λ o y. mend_then (one e ns (set.Sign sign.Star) (suc l) y)
-    (λ x w. mend_then (one e ns set.Name (suc l) w) (λ n v. mend_then (one e ns (set.Sign sign.CloseParen) l v) (λ c u. mend_then (one e ns (set.Sign sign.OpenParen) (suc l) u)
-    (λ p i. mend_then (read e ns (part.ParametersOf false) (suc l) i) (λ ps j. mend_then (one e ns (set.Sign sign.CloseParen) l j) (λ q k. mend_then (one e ns (set.Sign sign.Semicolon) l k)
+function_type e ns t l s = mend_then (read e ns (part.AnyType true false) l s)
+    (λ r z. mend_then (one e ns (set.Sign sign.OpenParen) (suc l) z) (λ o y. mend_then (one e ns (set.Sign sign.Star) (suc l) y)
+    (λ x w. mend_then (one e ns set.Name (suc l) w) (λ n v. mend_then (one e ns (set.Sign sign.CloseParen) l v)
+    (λ c u. mend_then (one e ns (set.Sign sign.OpenParen) (suc l) u)
+    (λ p i. mend_then (read e ns (part.ParametersOf false) (suc l) i)
+    (λ ps j. mend_then (one e ns (set.Sign sign.CloseParen) l j) (λ q k. mend_then (one e ns (set.Sign sign.Semicolon) l k)
     (λ m h. Some (item.FunctionType (tree.signature false r n ps t.start q), h))))))))))
 
 -- `_X { fields };`
 unfoldable pub struct_rest : ℕ → Names → ℕ → Place → Read Item
-struct_rest e ns l s = mend_then (one e ns set.Tag l s) (λ g z. mend_then (one e ns (set.Sign sign.OpenBrace) (suc l) z) (λ o y. mend_then (read e ns part.Fields (suc l) y)
-    (λ fs w. mend_then (one e ns (set.Sign sign.CloseBrace) l w) (λ x v. mend_then (one e ns (set.Sign sign.Semicolon) l v) (λ q u. Some (item.Struct (record { name = tree.struct_name g; fields = fs }), u))))))
+struct_rest e ns l s = mend_then (one e ns set.Tag l s) (λ g z. mend_then (one e ns (set.Sign sign.OpenBrace) (suc l) z)
+    (λ o y. mend_then (read e ns part.Fields (suc l) y)
+    (λ fs w. mend_then (one e ns (set.Sign sign.CloseBrace) l w)
+    (λ x v. mend_then (one e ns (set.Sign sign.Semicolon) l v) (λ q u. Some (item.Struct (record { name = tree.struct_name g; fields = fs }), u))))))
 
 -- what follows `static const GInterfaceInfo`
 unfoldable pub info_end : ℕ → Names → Token → Option Span → Token → ℕ → Place → Read Item
 info_end e ns t b i l s =
     if can_be_type true (role_of ns i.bytes)
-    then way ns set.TypeMore s (mend_then (type_more e ns b i l s) (λ d z. read e ns (part.StaticEnd t d) l z)) (static_end e ns t (type_in_rows b i None no_stars) true l s)
+    then way ns set.TypeMore s (mend_then (type_more e ns b i l s) (λ d z. read e ns (part.StaticEnd t d) l z))
+    (static_end e ns t (type_in_rows b i None no_stars) true l s)
     else mend_then (one e ns set.Name l s) (λ n z. mend_then (one e ns (set.Sign sign.Assign) l z) (λ a y. table_behind e ns n l y))
 
 -- what follows `static const` and a name

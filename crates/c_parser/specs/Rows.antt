@@ -44,7 +44,8 @@ star_behind e ns a t l s = mend_then (seen_by row_of (read e ns Consts l s)) (λ
 
 -- two stars
 unfoldable pub two_stars : ℕ → Names → ℕ → Place → Read Stars
-two_stars e ns l s = mend_then (one e ns (set.Sign sign.Star) l s) (λ p z. mend_then (star_behind e ns no_stars p l z) (λ a y. mend_then (one e ns (set.Sign sign.Star) l y) (λ q w. star_behind e ns a q l w)))
+two_stars e ns l s = mend_then (one e ns (set.Sign sign.Star) l s)
+    (λ p z. mend_then (star_behind e ns no_stars p l z) (λ a y. mend_then (one e ns (set.Sign sign.Star) l y) (λ q w. star_behind e ns a q l w)))
 
 -- the base of a type that begins with a word of its own, behind these `const`
 unfoldable pub key_base : ℕ → Names → Option Span → ℕ → Place → Read Token

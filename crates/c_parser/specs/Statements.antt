@@ -13,4 +13,5 @@ use Rattle.c_parser.specs.Pieces.{starred_of}
 
 -- what follows this `*` that a statement begins with: the rest of the place, and what is stored to it
 unfoldable pub star_behind : ℕ → Names → Token → ℕ → Place → Read Stmt
-star_behind e ns t l s = mend_then (starred_of e ns (tree.sign_prefix t) l s) (λ a z. mend_then (one e ns (set.Sign sign.Assign) l z) (λ x y. read e ns (part.Assigned a) l y))
+star_behind e ns t l s = mend_then (starred_of e ns (tree.sign_prefix t) l s)
+    (λ a z. mend_then (one e ns (set.Sign sign.Assign) l z) (λ x y. read e ns (part.Assigned a) l y))

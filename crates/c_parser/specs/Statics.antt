@@ -31,7 +31,8 @@ static_behind e ns t c may n false l s = read e ns (part.DeclaredOf true c n t.s
 
 -- `(GInterfaceInitFunc)`, by its last bracket
 unfoldable pub init_word : ℕ → Names → ℕ → Place → Read Token
-init_word e ns l s = mend_then (one e ns (set.Sign sign.OpenParen) (suc l) s) (λ p z. mend_then (one e ns set.InitFunc (suc l) z) (λ y w. one e ns (set.Sign sign.CloseParen) l w))
+init_word e ns l s = mend_then (one e ns (set.Sign sign.OpenParen) (suc l) s)
+    (λ p z. mend_then (one e ns set.InitFunc (suc l) z) (λ y w. one e ns (set.Sign sign.CloseParen) l w))
 
 -- `, NULL`
 unfoldable pub comma_null : ℕ → Names → ℕ → Place → Read Token

@@ -30,12 +30,15 @@ use Rattle.c_parser.specs.Pieces.{bracketed_of, is_address, operand_of, prefixed
 -- what follows `sizeof`
 unfoldable pub size_behind : ℕ → Names → Token → ℕ → Place → Read Expr
 size_behind e ns t l s =
-    mend_then (one e ns (set.Sign sign.OpenParen) (suc l) s) (λ o z. mend_then (read e ns (part.AnyType true true) (suc l) z) (λ c y. mend_then (one e ns (set.Sign sign.CloseParen) l y) (λ x w. Some (tree.size_of t c x, w))))
+    mend_then (one e ns (set.Sign sign.OpenParen) (suc l) s)
+    (λ o z. mend_then (read e ns (part.AnyType true true) (suc l) z)
+    (λ c y. mend_then (one e ns (set.Sign sign.CloseParen) l y) (λ x w. Some (tree.size_of t c x, w))))
 
 -- what follows `G_STRUCT_OFFSET`
 unfoldable pub offset_behind : ℕ → Names → Token → ℕ → Place → Read Expr
 offset_behind e ns t l s =
-    mend_then (one e ns (set.Sign sign.OpenParen) (suc l) s) (λ o z. mend_then (read e ns (part.AnyType true true) (suc l) z) (λ c y. mend_then (one e ns (set.Sign sign.Comma) (suc l) y)
+    mend_then (one e ns (set.Sign sign.OpenParen) (suc l) s)
+    (λ o z. mend_then (read e ns (part.AnyType true true) (suc l) z) (λ c y. mend_then (one e ns (set.Sign sign.Comma) (suc l) y)
     (λ m w. mend_then (one e ns set.Name (suc l) w) (λ n v. mend_then (one e ns (set.Sign sign.CloseParen) l v) (λ x u. Some (tree.offset t c n x, u))))))
 
 -- 2. Suffixes
@@ -50,7 +53,8 @@ field_of e ns dot l s = mend_then (one e ns (set.Field dot) l s) (λ t z. field_
 
 -- a value and `]`, of which this is the `[` in front
 unfoldable pub index_behind : ℕ → Names → Token → ℕ → Place → Read Suffix
-index_behind e ns t l s = mend_then (read e ns (part.Value false) (suc l) s) (λ i z. mend_then (one e ns (set.Sign sign.CloseBracket) l z) (λ x y. Some (tree.index_suffix t i x, y)))
+index_behind e ns t l s = mend_then (read e ns (part.Value false) (suc l) s)
+    (λ i z. mend_then (one e ns (set.Sign sign.CloseBracket) l z) (λ x y. Some (tree.index_suffix t i x, y)))
 
 -- `[`, a value and `]`
 unfoldable pub index_of : ℕ → Names → ℕ → Place → Read Suffix
@@ -105,7 +109,8 @@ operand_step e ns c place a l s = give step.Operand (finished e ns c place a l s
 
 -- a cast, of which this is the `(` in front
 unfoldable pub cast_of : ℕ → Names → Token → ℕ → Place → Read PrefixOperator
-cast_of e ns t l s = mend_then (read e ns (part.AnyType false true) (suc l) s) (λ c z. mend_then (one e ns (set.Sign sign.CloseParen) l z) (λ x y. Some (tree.cast_prefix t c x, y)))
+cast_of e ns t l s = mend_then (read e ns (part.AnyType false true) (suc l) s)
+    (λ c z. mend_then (one e ns (set.Sign sign.CloseParen) l z) (λ x y. Some (tree.cast_prefix t c x, y)))
 
 -- the same as a step
 abbrev pub cast_step : ℕ → Names → Token → ℕ → Place → Read Step
@@ -118,12 +123,14 @@ bracket_step e ns c place t l s =
 
 -- a cast, or an operand without operators before it
 unfoldable pub plain_step : ℕ → Names → Bool → Bool → ℕ → Place → Read Step
-plain_step e ns c place l s = way ns (set.Sign sign.OpenParen) s (mend_then (one e ns (set.Sign sign.OpenParen) (suc l) s) (λ t z. bracket_step e ns c place t l z))
+plain_step e ns c place l s = way ns (set.Sign sign.OpenParen) s
+    (mend_then (one e ns (set.Sign sign.OpenParen) (suc l) s) (λ t z. bracket_step e ns c place t l z))
     (mend_then (read e ns (part.Primary c) l s) (λ a z. operand_step e ns c place a l z))
 
 -- one operator, or the operand
 unfoldable pub step_of : ℕ → Names → Bool → Bool → ℕ → Place → Read Step
-step_of e ns c place l s = way ns (prefixes c place) s (mend_then (one e ns (prefixes c place) l s) (λ t z. Some (step.Operator (tree.sign_prefix t), z))) (plain_step e ns c place l s)
+step_of e ns c place l s = way ns (prefixes c place) s (mend_then (one e ns (prefixes c place) l s)
+    (λ t z. Some (step.Operator (tree.sign_prefix t), z))) (plain_step e ns c place l s)
 
 -- an operand behind these operators
 unfoldable pub operators_of : ℕ → Names → List PrefixOperator → Bool → Bool → ℕ → Place → Read Expr
@@ -156,7 +163,8 @@ choice_of e ns c a l s = mend_then (read e ns (part.Value c) (suc l) s) (λ b z.
 -- what follows a value that may be a condition
 unfoldable pub choices_of : ℕ → Names → Bool → Expr → ℕ → Place → Read (List Choice × Expr)
 choices_of e ns c a l s = way ns (set.Sign sign.Question) s
-    (mend_then (one e ns (set.Sign sign.Question) (suc l) s) (λ q z. mend_then (choice_of e ns c a l z) (λ k y. give (λ r. (k ∷ r.0, r.1)) (read e ns (part.Choosing c) l y)))) (Some (([], a), s))
+    (mend_then (one e ns (set.Sign sign.Question) (suc l) s)
+    (λ q z. mend_then (choice_of e ns c a l z) (λ k y. give (λ r. (k ∷ r.0, r.1)) (read e ns (part.Choosing c) l y)))) (Some (([], a), s))
 
 -- the value that these choices and what follows make
 unfoldable pub conditional_of : ℕ → Names → Bool → List Choice → Expr → ℕ → Place → Read Expr
@@ -171,21 +179,25 @@ choosing_of e ns c a l s = give (λ r. conditional r.0 r.1) (read e ns (part.Cho
 -- a call of a value, behind the callee
 unfoldable pub call_behind : ℕ → Names → Option Expr → Expr → ℕ → Place → Read Stmt
 call_behind e ns b a l s = mend_then (one e ns (set.Sign sign.OpenParen) (suc l) s) (λ o z. mend_then (read e ns part.Arguments (suc l) z) (λ xs y.
-    mend_then (one e ns (set.Sign sign.CloseParen) l y) (λ x w. mend_then (one e ns (set.Sign sign.Semicolon) l w) (λ q v. Some (tree.call_stmt b (tree.value_call a xs x), v)))))
+    mend_then (one e ns (set.Sign sign.CloseParen) l y) (λ x w. mend_then (one e ns (set.Sign sign.Semicolon) l w)
+    (λ q v. Some (tree.call_stmt b (tree.value_call a xs x), v)))))
 
 -- what stands in the brackets of a call of a function of the library, and `)`
 unfoldable pub row_inside : ℕ → Names → Token → Bool → ℕ → Place → Read Call
-row_inside e ns n false l s = mend_then (read e ns part.Arguments (suc l) s) (λ xs z. mend_then (one e ns (set.Sign sign.CloseParen) l z) (λ x y. Some (tree.row_call n None xs x, y)))
+row_inside e ns n false l s = mend_then (read e ns part.Arguments (suc l) s)
+    (λ xs z. mend_then (one e ns (set.Sign sign.CloseParen) l z) (λ x y. Some (tree.row_call n None xs x, y)))
 row_inside e ns n true l s = mend_then (read e ns (part.AnyType true true) (suc l) s) (λ c z. mend_then (read e ns part.MoreArguments (suc l) z) (λ xs y.
     mend_then (one e ns (set.Sign sign.CloseParen) l y) (λ x w. Some (tree.row_call n (Some c) xs x, w))))
 
 -- what follows a place that a statement begins with
 unfoldable pub stored_of : ℕ → Names → Expr → ℕ → Place → Read Stmt
-stored_of e ns a l s = way ns (set.Sign sign.Assign) s (mend_then (one e ns (set.Sign sign.Assign) l s) (λ t z. read e ns (part.Assigned a) l z)) (call_behind e ns None a l s)
+stored_of e ns a l s = way ns (set.Sign sign.Assign) s (mend_then (one e ns (set.Sign sign.Assign) l s) (λ t z. read e ns (part.Assigned a) l z))
+    (call_behind e ns None a l s)
 
 -- what follows the first operand of a value that is stored to this place
 unfoldable pub assigned_value : ℕ → Names → Expr → Expr → ℕ → Place → Read Stmt
-assigned_value e ns b a l s = mend_then (choosing_of e ns false a l s) (λ v z. mend_then (one e ns (set.Sign sign.Semicolon) l z) (λ q y. Some (stmt.Assign b v, y)))
+assigned_value e ns b a l s = mend_then (choosing_of e ns false a l s)
+    (λ v z. mend_then (one e ns (set.Sign sign.Semicolon) l z) (λ q y. Some (stmt.Assign b v, y)))
 
 -- what follows a step of a value that is stored, or of a callee
 unfoldable pub assigned_step : ℕ → Names → Expr → Step → ℕ → Place → Read Stmt

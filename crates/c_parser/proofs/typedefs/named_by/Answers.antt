@@ -14,5 +14,6 @@ pub returns-clause-tree : goal.returns-clause-tree
 unfolding tag_named
 returns-clause-tree c =
     let e = ap behind_first c.requires.bears ∙ sym c.behind_first.ensures in
-    ap (λ (w : List ℕ). Some (mend_token C (made_up c.args.parser.now.end) c_limits c.args.level 0 (is_name_of w) (seen c.args.tag ∷ []) (state c.args.parser.now))) e
+    ap (λ (w : List ℕ). Some (mend_token C (made_up c.args.parser.now.end) c_limits c.args.level 0 (is_name_of w) (seen c.args.tag ∷ [])
+    (state c.args.parser.now))) e
     ∙ ap Some (sym (c.expect.ensures.token (seen c.args.tag ∷ []) e))

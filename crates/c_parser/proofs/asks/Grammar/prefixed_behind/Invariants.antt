@@ -8,7 +8,8 @@ use Rattle.c_parser.proofs.asks.Grammar.prefixed_behind.Given as goal
 
 abbrev pub invariant-operators : goal.invariant-operators
 invariant-operators g l = record {
-  same : operators_of l.parser.end (names_of l.parser.names) l.operators l.place l.constant l.level (state l.parser) ≡ prefixed_of l.fn.parser.end (names_of l.fn.parser.names) l.constant l.fn.first l.level (state l.fn.parser);
+  same : operators_of l.parser.end (names_of l.parser.names) l.operators l.place l.constant l.level (state l.parser)
+      ≡ prefixed_of l.fn.parser.end (names_of l.fn.parser.names) l.constant l.fn.first l.level (state l.fn.parser);
   value : (l.constant && l.place) ≡ false;
   names : names_of l.parser.names ≡ names_of l.fn.parser.names;
   ends : l.parser.end ≡ l.fn.parser.end;

@@ -7,7 +7,8 @@ use Rattle.c_parser.proofs.asks.Grammar.value_behind.Given as goal
 
 abbrev pub invariant-choices : goal.invariant-choices
 invariant-choices g l = record {
-  same : conditional_of l.parser.end (names_of l.parser.names) l.constant l.choices l.test l.level (state l.parser) ≡ choosing_of l.fn.parser.end (names_of l.fn.parser.names) l.constant l.fn.first l.level (state l.fn.parser);
+  same : conditional_of l.parser.end (names_of l.parser.names) l.constant l.choices l.test l.level (state l.parser)
+      ≡ choosing_of l.fn.parser.end (names_of l.fn.parser.names) l.constant l.fn.first l.level (state l.fn.parser);
   names : names_of l.parser.names ≡ names_of l.fn.parser.names;
   ends : l.parser.end ≡ l.fn.parser.end;
   stop : bad l.parser.cursor ≡ bad l.fn.parser.cursor;
