@@ -1,5 +1,6 @@
 -- The faults of calls, statements and blocks are known by the end of their text.
-use Rattle.std.proofs.Common.{◌≡◌, refl, sym, ap, subst, ℕ, ◌-◌, ◌<◌, ◌≤◌, Bool, true, false, not, if◌then◌else◌, List, [], ◌∷◌, ◌++◌, map, length, Option, Some, None, arith}
+use Rattle.std.proofs.Common.{◌≡◌, refl, sym, ap, subst, ℕ, ◌-◌, ◌<◌, ◌≤◌, Bool, true, false, not, if◌then◌else◌, List, [], ◌∷◌, ◌++◌, map, length}
+use Rattle.std.proofs.Common.{Option, Some, None, arith}
 use Rattle.c_tree.specs.declared.names.CType.{CType}
 use Rattle.c_tree.specs.declared.names.Name.{Name}
 use Rattle.c_tree.specs.declared.names.Span.{Span}
@@ -26,14 +27,20 @@ use Rattle.c_tree.specs.Library.{Takes, Literal, RowParameter, Number, Pointer, 
 use Rattle.c_tree.specs.Env.{Env, found, found_in, innermost, kind_of, opened}
 use Rattle.c_tree.specs.Faults.{fault, misfit, twice, unless, behind_first}
 use Rattle.c_tree.specs.Checks.{Known, checked, is_null, type_faults, undeclared_if}
-use Rattle.c_tree.specs.Rules.{Context, Body, Called, fit, fit_by, class_by, must_be, any_faults, pair_faults, argument_faults, fit_all, all_checked, own_faults, called_if, row_call, unit_call, value_call, signature_of, row_number, type_argument_faults, type_argument_fine, takes_count, same_literal, call, twice_if, twice_here, not_laid_out, laid_out_if, with_local, local_faults, locals_faults, with_locals, inner, condition, case_targets, return_by, return_empty, result_fit, check_stmt, all_faults, all_labels, all_targets, check_block, checked_block}
+use Rattle.c_tree.specs.Rules.{Context, Body, Called, fit, fit_by, class_by, must_be, any_faults, pair_faults, argument_faults, fit_all, all_checked}
+use Rattle.c_tree.specs.Rules.{own_faults, called_if, row_call, unit_call, value_call, signature_of, row_number, type_argument_faults}
+use Rattle.c_tree.specs.Rules.{type_argument_fine, takes_count, same_literal, call, twice_if, twice_here, not_laid_out, laid_out_if, with_local}
+use Rattle.c_tree.specs.Rules.{local_faults, locals_faults, with_locals, inner, condition, case_targets, return_by, return_empty, result_fit}
+use Rattle.c_tree.specs.Rules.{check_stmt, all_faults, all_labels, all_targets, check_block, checked_block}
 use Rattle.c_tree.specs.Statements as st
-use Rattle.c_tree.specs.Statements.{ReadsLocal, local_is, ReadsLocals, no_local, more_locals, ReadsCall, call_value, call_row, call_type_row, ReadsPlace, place_is, ReadsGoto, goto_is, ReadsCases, no_case, more_cases, ReadsStmt, ReadsStmts, ReadsBlock}
+use Rattle.c_tree.specs.Statements.{ReadsLocal, local_is, ReadsLocals, no_local, more_locals, ReadsCall, call_value, call_row, call_type_row}
+use Rattle.c_tree.specs.Statements.{ReadsPlace, place_is, ReadsGoto, goto_is, ReadsCases, no_case, more_cases, ReadsStmt, ReadsStmts, ReadsBlock}
 use Rattle.c_tree.specs.Unit.{block_end}
 use Rattle.c_fronts.proofs.Unfold.{body_of, body_layer, stmt_at, body_at, block_out}
 use Rattle.c_text_reader.specs.Laws.{Within}
 use Rattle.c_text_reader.proofs.Early.{Early, IsIn, early_append, early_three, early_unless, early_fault, early_misfit, early_twice, early_name, early_behind}
-use Rattle.c_text_reader.proofs.KnownValues.{within_append, TypeIn, type_early, type_in, Fine, FineAll, known_in, value_fine, operand_fine, callee_fine, arguments_fine, more_fine}
+use Rattle.c_text_reader.proofs.KnownValues.{within_append, TypeIn, type_early, type_in, Fine, FineAll, known_in, value_fine, operand_fine}
+use Rattle.c_text_reader.proofs.KnownValues.{callee_fine, arguments_fine, more_fine}
 
 module _ (n : ℕ) where
   -- 1. Values that must fit
@@ -73,15 +80,19 @@ module _ (n : ℕ) where
   pair_early : (env : Env) (xs : List Known) → AllIn xs → Early n (pair_faults env xs)
   pair_early env [] h = tt
   pair_early env (a ∷ []) h = early_unless n (is_null a) (misfit a.span) (early_misfit n a.span h.0)
-  pair_early env (a ∷ b ∷ xs) h = early_three n (must_be env is_pointer_or_function a) (must_be env is_argument b) (pair_faults env xs) (must_early env is_pointer_or_function a h.0) (must_early env is_argument b h.1.0) (pair_early env xs h.1.1)
+  pair_early env (a ∷ b ∷ xs) h = early_three n (must_be env is_pointer_or_function a) (must_be env is_argument b) (pair_faults env xs)
+      (must_early env is_pointer_or_function a h.0) (must_early env is_argument b h.1.0) (pair_early env xs h.1.1)
 
   arguments_early : (env : Env) (ps : List RowParameter) (xs : List Known) → AllIn xs → Early n (argument_faults env ps xs)
   arguments_early env [] xs h = tt
   arguments_early env (p ∷ ps) [] h = tt
-  arguments_early env (Number k ∷ ps) (a ∷ xs) h = early_append n (must_be env is_integer a) (argument_faults env ps xs) (must_early env is_integer a h.0) (arguments_early env ps xs h.1)
-  arguments_early env (Pointer ∷ ps) (a ∷ xs) h = early_append n (must_be env is_pointer_or_function a) (argument_faults env ps xs) (must_early env is_pointer_or_function a h.0) (arguments_early env ps xs h.1)
+  arguments_early env (Number k ∷ ps) (a ∷ xs) h = early_append n (must_be env is_integer a) (argument_faults env ps xs)
+      (must_early env is_integer a h.0) (arguments_early env ps xs h.1)
+  arguments_early env (Pointer ∷ ps) (a ∷ xs) h = early_append n (must_be env is_pointer_or_function a) (argument_faults env ps xs)
+      (must_early env is_pointer_or_function a h.0) (arguments_early env ps xs h.1)
   arguments_early env (Exactly l ∷ ps) (a ∷ xs) h =
-      early_append n (unless (same_literal l a.value.literal) (misfit a.span)) (argument_faults env ps xs) (early_unless n (same_literal l a.value.literal) (misfit a.span) (early_misfit n a.span h.0)) (arguments_early env ps xs h.1)
+      early_append n (unless (same_literal l a.value.literal) (misfit a.span)) (argument_faults env ps xs)
+      (early_unless n (same_literal l a.value.literal) (misfit a.span) (early_misfit n a.span h.0)) (arguments_early env ps xs h.1)
   arguments_early env (Any ∷ ps) (a ∷ xs) h = any_early env (a ∷ xs) h
   arguments_early env (Pairs ∷ ps) (a ∷ xs) h = pair_early env (a ∷ xs) h
 
@@ -127,8 +138,10 @@ module _ (n : ℕ) where
     span = (h.0, i.1);
     faults = λ env.
         let x = found env.scopes t.bytes in
-        early_append n (undeclared_if x (name_at t) ++ type_argument_faults env o ++ own_faults env (all_checked checked es)) (row_call env (row_number x) (join (at t) (at s)) (type_argument_fine env o) (all_checked checked es)).faults
-        (early_three n (undeclared_if x (name_at t)) (type_argument_faults env o) (own_faults env (all_checked checked es)) (early_name n x (name_at t) h) (argument_type_early env o j) (own_early env es f))
+        early_append n (undeclared_if x (name_at t) ++ type_argument_faults env o ++ own_faults env (all_checked checked es))
+        (row_call env (row_number x) (join (at t) (at s)) (type_argument_fine env o) (all_checked checked es)).faults
+        (early_three n (undeclared_if x (name_at t)) (type_argument_faults env o) (own_faults env (all_checked checked es))
+        (early_name n x (name_at t) h) (argument_type_early env o j) (own_early env es f))
         (row_early env (row_number x) (join (at t) (at s)) (type_argument_fine env o) (all_checked checked es) (h.0, i.1) (all_in es f));
   }
 
@@ -137,7 +150,8 @@ module _ (n : ℕ) where
   value_call_fine a s es f i g = record {
     span = (f.span.0, i.1);
     faults = λ env.
-        early_append n ((checked a).value.faults env ++ own_faults env (all_checked checked es)) (value_call env ((checked a).value.kind env) (join (span_of a) (at s)) (all_checked checked es)).faults
+        early_append n ((checked a).value.faults env ++ own_faults env (all_checked checked es))
+        (value_call env ((checked a).value.kind env) (join (span_of a) (at s)) (all_checked checked es)).faults
         (early_append n ((checked a).value.faults env) (own_faults env (all_checked checked es)) (f.faults env) (own_early env es g))
         (value_early env ((checked a).value.kind env) (join (span_of a) (at s)) (all_checked checked es) (f.span.0, i.1) (all_in es g));
   }
@@ -182,7 +196,8 @@ module _ (n : ℕ) where
       let fs = type_faults env l.declared ++ twice_here env l.name ++ not_laid_out env (kind_of env l.declared) l.name in
       early_append n (local_faults env l) (locals_faults (with_local env l) ls)
       (early_behind n l.declared.span.start fs h.0.0.1
-      (early_three n (type_faults env l.declared) (twice_here env l.name) (not_laid_out env (kind_of env l.declared) l.name) (type_early n env l.declared h.0.0) (here_early env l.name h.0.1)
+      (early_three n (type_faults env l.declared) (twice_here env l.name) (not_laid_out env (kind_of env l.declared) l.name)
+      (type_early n env l.declared h.0.0) (here_early env l.name h.0.1)
       (laid_early env (kind_of env l.declared) l.name h.0.1)))
       (locals_early (with_local env l) ls h.1)
 
@@ -207,18 +222,26 @@ module _ (n : ℕ) where
   made l h = subst (λ (b : Body). FineBody b) (sym (body_at l)) h
 
   condition_early : (env : Env) (a : Expr) → Fine n a → Early n (condition env (checked a))
-  condition_early env a f = early_append n ((checked a).value.faults env) (must_be env is_scalar (checked a)) (f.faults env) (must_early env is_scalar (checked a) (known_in n a f.span))
+  condition_early env a f = early_append n ((checked a).value.faults env) (must_be env is_scalar (checked a)) (f.faults env)
+      (must_early env is_scalar (checked a) (known_in n a f.span))
 
   assign_fine : (a b : Expr) → Fine n a → Fine n b → FineBody (body_of (stmt_at (Stmt-F.Assign a b)))
   assign_fine a b f g = made (Stmt-F.Assign a b) (record {
-    faults = λ x. early_behind n (span_of a).start ((checked a).value.faults x.env ++ (checked b).value.faults x.env ++ fit x.env ((checked a).value.kind x.env) (checked b)) f.span.0
-        (early_three n ((checked a).value.faults x.env) ((checked b).value.faults x.env) (fit x.env ((checked a).value.kind x.env) (checked b)) (f.faults x.env) (g.faults x.env) (fit_early x.env ((checked a).value.kind x.env) (checked b) (known_in n b g.span)));
+    faults = λ x. early_behind n (span_of a).start ((checked a).value.faults x.env ++ (checked b).value.faults x.env
+        ++ fit x.env ((checked a).value.kind x.env) (checked b)) f.span.0
+        (early_three n ((checked a).value.faults x.env) ((checked b).value.faults x.env) (fit x.env ((checked a).value.kind x.env) (checked b))
+        (f.faults x.env) (g.faults x.env) (fit_early x.env ((checked a).value.kind x.env) (checked b) (known_in n b g.span)));
     labels = tt;
     targets = tt;
   })
 
   call_stmt_fine : (x : Call) → FineCall x → FineBody (body_of (stmt_at (Stmt-F.Call x)))
-  call_stmt_fine x f = made (Stmt-F.Call x) (record { faults = λ y. early_behind n x.span.start (call checked y.env x).faults f.span.0 (f.faults y.env); labels = tt; targets = tt })
+  call_stmt_fine x f = made (Stmt-F.Call x) (record {
+    faults =
+        λ y. early_behind n x.span.start (call checked y.env x).faults f.span.0 (f.faults y.env);
+    labels = tt;
+    targets = tt;
+  })
 
   result_early : (k j : Option Kind) (s : Span) → IsIn n s → Early n (result_fit k j s)
   result_early None j s h = tt
@@ -230,7 +253,8 @@ module _ (n : ℕ) where
     faults = λ y.
         let k = (checked a).value.kind y.env in let r = (call checked y.env x).result in
         early_behind n (span_of a).start ((checked a).value.faults y.env ++ (call checked y.env x).faults ++ result_fit k r x.span) f.span.0
-        (early_three n ((checked a).value.faults y.env) (call checked y.env x).faults (result_fit k r x.span) (f.faults y.env) (g.faults y.env) (result_early k r x.span g.span));
+        (early_three n ((checked a).value.faults y.env) (call checked y.env x).faults (result_fit k r x.span) (f.faults y.env) (g.faults y.env)
+        (result_early k r x.span g.span));
     labels = tt;
     targets = tt;
   })
@@ -296,7 +320,8 @@ module _ (n : ℕ) where
   block_of : (ls : List Local) (ss : List Stmt) (o : Span) → LocalsIn ls → FineStmts ss → o.end ≤ n → FineBlock (block ls ss o)
   block_of ls ss o h f e = record {
     body = subst (λ (b : Body). FineBody b) (sym (block_out ls ss o)) (record {
-      faults = λ x. early_append n (locals_faults x.env ls) (all_faults (record x { env = with_locals x.env ls }) (map body_of ss)) (locals_early x.env ls h) (f.faults (record x { env = with_locals x.env ls }));
+      faults = λ x. early_append n (locals_faults x.env ls) (all_faults (record x { env = with_locals x.env ls }) (map body_of ss))
+          (locals_early x.env ls h) (f.faults (record x { env = with_locals x.env ls }));
       labels = f.labels;
       targets = f.targets;
     });
@@ -317,14 +342,21 @@ module _ (n : ℕ) where
         if_else_fine a b d (value_fine n r q.0.1.1) (block_fine rb q.1.1) (block_fine rd p.1.1)
     stmt_fine (st.if_goto {i = x} {t} s l {u} {w} {a} i j r h go) g =
         let p = within_append n (x ∷ t ∷ u) (s ∷ w) g in
-        made (Stmt-F.IfGoto a (name_at l)) (record { faults = λ y. condition_early y.env a (value_fine n r p.0.1.1); labels = tt; targets = (goto_in go p.1.1, tt) })
+        made (Stmt-F.IfGoto a (name_at l)) (record {
+          faults = λ y. condition_early y.env a (value_fine n r p.0.1.1);
+          labels = tt;
+          targets =
+              (goto_in go p.1.1, tt);
+        })
     stmt_fine (st.goes l go) g = made (Stmt-F.Goto (name_at l)) (record { faults = λ y. tt; labels = tt; targets = (goto_in go g, tt) })
     stmt_fine (st.labels {n = l} i j h) g = made (Stmt-F.Label (name_at l)) (record { faults = λ y. tt; labels = (g.0, tt); targets = tt })
     stmt_fine (st.switches {i = x} {t} s l d c q m {u} {w} {x = z} {a} {cs} i j r h k rs y f go e) g =
-        let p = within_append n (x ∷ t ∷ u ++ s ∷ l ∷ w ++ d ∷ c ∷ z) (q ∷ []) g in let p1 = within_append n (x ∷ t ∷ u ++ s ∷ l ∷ w) (d ∷ c ∷ z) p.0 in let p2 = within_append n (x ∷ t ∷ u) (s ∷ l ∷ w) p1.0 in
+        let p = within_append n (x ∷ t ∷ u ++ s ∷ l ∷ w ++ d ∷ c ∷ z) (q ∷ []) g in let p1 = within_append n (x ∷ t ∷ u ++ s ∷ l ∷ w) (d ∷ c ∷ z) p.0
+        in let p2 = within_append n (x ∷ t ∷ u) (s ∷ l ∷ w) p1.0 in
         let fine : Fine n a = value_fine n r p2.0.1.1 in
         made (Stmt-F.Switch a cs (name_at m)) (record {
-          faults = λ b. early_append n ((checked a).value.faults b.env) (must_be b.env is_integer (checked a)) (fine.faults b.env) (must_early b.env is_integer (checked a) (known_in n a fine.span));
+          faults = λ b. early_append n ((checked a).value.faults b.env) (must_be b.env is_integer (checked a)) (fine.faults b.env)
+              (must_early b.env is_integer (checked a) (known_in n a fine.span));
           labels = tt;
           targets = names_append (case_targets cs) (name_at m ∷ []) (cases_in rs p2.1.1.1) (goto_in go p1.1.1.1, tt);
         })
@@ -332,11 +364,13 @@ module _ (n : ℕ) where
     stmt_fine (st.returns_value {t} e {w} {a} i r j) g =
         let p = within_append n (t ∷ w) (e ∷ []) g in let fine : Fine n a = value_fine n r p.0.1 in
         made (Stmt-F.Return (at t) (Some a)) (record {
-          faults = λ y. early_append n ((checked a).value.faults y.env) (return_by y.env y.result (at t) (checked a)) (fine.faults y.env) (return_early y.env y.result (at t) a fine);
+          faults = λ y. early_append n ((checked a).value.faults y.env) (return_by y.env y.result (at t) (checked a)) (fine.faults y.env)
+              (return_early y.env y.result (at t) a fine);
           labels = tt;
           targets = tt;
         })
-    stmt_fine (st.blocks {b} r) g = let f = block_fine r g in made (Stmt-F.Block b) (record { faults = λ y. inner_early b f y; labels = f.body.labels; targets = f.body.targets })
+    stmt_fine (st.blocks {b} r) g = let f = block_fine r g in made (Stmt-F.Block b)
+        (record { faults = λ y. inner_early b f y; labels = f.body.labels; targets = f.body.targets })
 
     stmts_fine : {ns : Names} {w : Word} {ss : List Stmt} → ReadsStmts ns w ss → Within n w → FineStmts ss
     stmts_fine st.no_stmt g = record { faults = λ y. tt; labels = tt; targets = tt }

@@ -25,15 +25,19 @@ use Rattle.c_tree.specs.declared.kinds.Fault.{Fault}
 use Rattle.c_tree.specs.Words.{Of, Token, Word, at, join, start_of, end_of}
 use Rattle.c_tree.specs.Names.{Names}
 use Rattle.c_tree.specs.Types.{BaseIs, void_is, int_is, char_is, named_is, ReadsType, type_is}
-use Rattle.c_tree.specs.Make.{name_at, expr, span_of, bracketed, link, choice, chained, prefixed, suffixed, conditional, last_operand, last_suffix, suffix_span, suffix_layer_span}
+use Rattle.c_tree.specs.Make.{name_at, expr, span_of, bracketed, link, choice, chained, prefixed, suffixed, conditional, last_operand, last_suffix}
+use Rattle.c_tree.specs.Make.{suffix_span, suffix_layer_span}
 use Rattle.c_tree.specs.Env.{Env, found, kind_of}
 use Rattle.c_tree.specs.Faults.{Outcome, outcome_faults, outcome_kind, on}
 use Rattle.c_tree.specs.Checks as c
-use Rattle.c_tree.specs.Checks.{Known, KnownLink, KnownChoice, KnownSuffix, Field, Arrow, Index, checked, check_shape, type_faults, operand_of, joined, join_outcome, chain_faults, choice_outcome, choice_operand, choice_faults, prefix_kind, prefix_by, prefix_faults, cast_faults, suffix_outcome, suffix_end, suffix_faults, index_faults, size_outcome, offset_outcome}
+use Rattle.c_tree.specs.Checks.{Known, KnownLink, KnownChoice, KnownSuffix, Field, Arrow, Index, checked, check_shape, type_faults, operand_of}
+use Rattle.c_tree.specs.Checks.{joined, join_outcome, chain_faults, choice_outcome, choice_operand, choice_faults, prefix_kind, prefix_by}
+use Rattle.c_tree.specs.Checks.{prefix_faults, cast_faults, suffix_outcome, suffix_end, suffix_faults, index_faults, size_outcome, offset_outcome}
 use Rattle.c_tree.specs.Values as v
 use Rattle.c_tree.specs.Values.{prefix_of}
 use Rattle.c_fronts.proofs.Shows.{IsPlain, plain_on}
-use Rattle.c_fronts.proofs.Unfold.{shape_at, known_layer, value_at, span_out, bracketed_value, known_link, known_choice, known_suffix, link_known, choice_known, suffix_known, suffix_out_at}
+use Rattle.c_fronts.proofs.Unfold.{shape_at, known_layer, value_at, span_out, bracketed_value, known_link, known_choice, known_suffix, link_known}
+use Rattle.c_fronts.proofs.Unfold.{choice_known, suffix_known, suffix_out_at}
 use Rattle.c_fronts.proofs.ValueFaults.{AtMost, prefix_plain, join_plain, choice_plain, size_plain, offset_most, IsField, field_is, index_plain}
 use Rattle.c_text_reader.specs.Laws.{Within}
 use Rattle.c_text_reader.proofs.Early.{Early, IsIn, early_append, early_three, early_undeclared, early_name, early_plain, early_most}
@@ -92,7 +96,8 @@ module _ (n : ℕ) where
   pub known_in : (e : Expr) → IsIn n (span_of e) → IsIn n (checked e).span
   known_in e h = subst (λ (s : Span). IsIn n s) (sym (span_out e)) h
 
-  made : (l : Shape-F Shape Suffix Choice Expr Link) (o : Span) → IsIn n o → ((env : Env) → Early n ((check_shape (known_layer l)).faults env)) → Fine (expr (shape_at l) o)
+  made : (l : Shape-F Shape Suffix Choice Expr Link) (o : Span) → IsIn n o → ((env : Env) → Early n ((check_shape (known_layer l)).faults env))
+      → Fine (expr (shape_at l) o)
   made l o h f = record { span = h; faults = λ env. subst (λ (z : c.Checked). Early n (z.faults env)) (sym (value_at l o)) (f env) }
 
   pub bracketed_fine : (e : Expr) (o : Span) → IsIn n o → Fine e → Fine (bracketed o e)
@@ -110,7 +115,8 @@ module _ (n : ℕ) where
   more_links o b ls f r = record {
     ends = λ s h. r.ends (span_of b) f.span;
     faults = λ env first a h. subst (λ (z : KnownLink). Early n (chain_faults env first a (z ∷ map known_link ls))) (sym (link_known o b))
-        (early_three n ((checked b).value.faults env) (outcome_faults (join_outcome env o a (operand_of env (checked b))) (join first (checked b).span)) (chain_faults env first (joined env o a (operand_of env (checked b))) (map known_link ls))
+        (early_three n ((checked b).value.faults env) (outcome_faults (join_outcome env o a (operand_of env (checked b)))
+        (join first (checked b).span)) (chain_faults env first (joined env o a (operand_of env (checked b))) (map known_link ls))
         (f.faults env) (early_plain n (join first (checked b).span) (join_plain env o a (operand_of env (checked b))) (h, (known_in b f.span).1))
         (r.faults env first (joined env o a (operand_of env (checked b))) h));
   }
@@ -118,7 +124,8 @@ module _ (n : ℕ) where
   chained_fine : (a : Expr) (ls : List Link) → Fine a → FineLinks ls → Fine (chained a ls)
   chained_fine a [] f r = f
   chained_fine a (l ∷ ls) f r = made (Shape-F.Chain a (l ∷ ls)) (join (span_of a) (last_operand (span_of a) (l ∷ ls))) (f.span.0, r.ends (span_of a) f.span)
-      (λ env. early_append n ((checked a).value.faults env) (chain_faults env (checked a).span (operand_of env (checked a)) (map known_link (l ∷ ls))) (f.faults env)
+      (λ env. early_append n ((checked a).value.faults env) (chain_faults env (checked a).span (operand_of env (checked a)) (map known_link (l ∷ ls)))
+      (f.faults env)
       (r.faults env (checked a).span (operand_of env (checked a)) (known_in a f.span).0))
 
   -- the type of a cast
@@ -160,7 +167,9 @@ module _ (n : ℕ) where
   prefixes_early : (env : Env) (ps : List PrefixOperator) (k : Option Kind) (last : Span) → PrefixesIn ps → last.end ≤ n → Early n (prefix_faults env ps k last)
   prefixes_early env [] k last h i = tt
   prefixes_early env (p ∷ ps) k last h i =
-      early_three n (cast_faults env p.prefix) (prefix_faults env ps k last) (outcome_faults (on (prefix_kind env ps k) (prefix_by env p.prefix)) (join p.span last)) (cast_early env p.prefix h.0.1) (prefixes_early env ps k last h.1 i)
+      early_three n (cast_faults env p.prefix) (prefix_faults env ps k last)
+      (outcome_faults (on (prefix_kind env ps k) (prefix_by env p.prefix)) (join p.span last)) (cast_early env p.prefix h.0.1)
+      (prefixes_early env ps k last h.1 i)
       (early_plain n (join p.span last) (plain_on (prefix_kind env ps k) (prefix_by env p.prefix) (prefix_plain env p.prefix)) (h.0.0, i))
 
   prefixed_fine : (ps : List PrefixOperator) (a : Expr) → PrefixesIn ps → Fine a → Fine (prefixed ps a)
@@ -189,7 +198,8 @@ module _ (n : ℕ) where
   field_more s x xs f h r = record {
     faults = λ env first k i.
         let o = suffix_outcome env k (known_suffix s) in
-        early_three n (index_faults env (known_suffix s)) (outcome_faults o (join first (suffix_end (known_suffix s)))) (suffix_faults env first (outcome_kind o) (map known_suffix xs))
+        early_three n (index_faults env (known_suffix s)) (outcome_faults o (join first (suffix_end (known_suffix s))))
+        (suffix_faults env first (outcome_kind o) (map known_suffix xs))
         (subst (λ (z : List Fault). Early n z) (sym (f.no_index env)) tt)
         (early_most n (join first (suffix_end (known_suffix s))) (f.only env k) h (i, subst (λ (z : Span). z.end ≤ n) (sym f.ends) h.1))
         (r.faults env first (outcome_kind o) i);
@@ -207,7 +217,8 @@ module _ (n : ℕ) where
   suffixed_fine : (a : Expr) (xs : List Suffix) → Fine a → LastIn xs → FineSuffixes xs → Fine (suffixed a xs)
   suffixed_fine a [] f l r = f
   suffixed_fine a (x ∷ xs) f l r = made (Shape-F.Postfix a (x ∷ xs)) (join (span_of a) (last_suffix x xs)) (f.span.0, l)
-      (λ env. early_append n ((checked a).value.faults env) (suffix_faults env (checked a).span ((checked a).value.kind env) (map known_suffix (x ∷ xs))) (f.faults env)
+      (λ env. early_append n ((checked a).value.faults env) (suffix_faults env (checked a).span ((checked a).value.kind env)
+      (map known_suffix (x ∷ xs))) (f.faults env)
       (r.faults env (checked a).span ((checked a).value.kind env) (known_in a f.span).0))
 
   -- choices, in front of the value behind the last `:`
@@ -222,12 +233,16 @@ module _ (n : ℕ) where
   choice_more : (a b : Expr) (cs : List Choice) (e : Expr) → Fine a → Fine b → Fine e → FineChoices cs e → FineChoices (choice a b ∷ cs) e
   choice_more a b cs e f g h r = record {
     faults = λ env.
-        let o = choice_outcome ((checked a).value.kind env) (operand_of env (checked b)) (choice_operand env (map known_choice cs) (operand_of env (checked e))) in
+        let o = choice_outcome ((checked a).value.kind env) (operand_of env (checked b))
+        (choice_operand env (map known_choice cs) (operand_of env (checked e))) in
         subst (λ (z : KnownChoice). Early n (choice_faults env (z ∷ map known_choice cs) (checked e))) (sym (choice_known a b))
-        (early_append n ((checked a).value.faults env ++ (checked b).value.faults env ++ choice_faults env (map known_choice cs) (checked e)) (outcome_faults o (join (checked a).span (checked e).span))
-        (early_three n ((checked a).value.faults env) ((checked b).value.faults env) (choice_faults env (map known_choice cs) (checked e)) (f.faults env) (g.faults env) (r.faults env))
+        (early_append n ((checked a).value.faults env ++ (checked b).value.faults env ++ choice_faults env (map known_choice cs) (checked e))
+        (outcome_faults o (join (checked a).span (checked e).span))
+        (early_three n ((checked a).value.faults env) ((checked b).value.faults env) (choice_faults env (map known_choice cs) (checked e))
+        (f.faults env) (g.faults env) (r.faults env))
         (early_plain n (join (checked a).span (checked e).span)
-        (choice_plain ((checked a).value.kind env) (operand_of env (checked b)) (choice_operand env (map known_choice cs) (operand_of env (checked e)))) ((known_in a f.span).0, (known_in e h.span).1)));
+        (choice_plain ((checked a).value.kind env) (operand_of env (checked b))
+        (choice_operand env (map known_choice cs) (operand_of env (checked e)))) ((known_in a f.span).0, (known_in e h.span).1)));
   }
 
   conditional_fine : (cs : List Choice) (e : Expr) → FirstIn cs → Fine e → FineChoices cs e → Fine (conditional cs e)
@@ -277,14 +292,20 @@ module _ (n : ℕ) where
   fine (v.postfixed {u} {v = z} {a} {xs} ra rest h) g = let p = within_append n u z g in let q = fine rest p.1 in suffixed_fine a xs (fine ra p.0) q.0 q.1
   fine v.no_suffix g = (tt, record { faults = λ env first k h. tt })
   fine (v.field {n = x} {xs} h i j rest) g =
-      let q = fine rest g.1.1 in let d = field_is (Of (k.Sign sign.Dot)) (name_at x) in
-      (last_in (suffix.Field (name_at x)) xs (subst (λ (z : Span). z.end ≤ n) (sym d.spans) g.1.0.1) q.0, field_more (suffix.Field (name_at x)) (name_at x) xs d g.1.0 q.1)
+      let q = fine rest g.1.1 in let d = field_is (Of (k.Sign sign.Dot)) (name_at x) in (
+        last_in (suffix.Field (name_at x)) xs (subst (λ (z : Span). z.end ≤ n) (sym d.spans) g.1.0.1) q.0,
+        field_more (suffix.Field (name_at x)) (name_at x) xs d g.1.0 q.1,
+      )
   fine (v.arrow {n = x} {xs} h i j rest) g =
-      let q = fine rest g.1.1 in let d = field_is (Of (k.Sign sign.Arrow)) (name_at x) in
-      (last_in (suffix.Arrow (name_at x)) xs (subst (λ (z : Span). z.end ≤ n) (sym d.spans) g.1.0.1) q.0, field_more (suffix.Arrow (name_at x)) (name_at x) xs d g.1.0 q.1)
+      let q = fine rest g.1.1 in let d = field_is (Of (k.Sign sign.Arrow)) (name_at x) in (
+        last_in (suffix.Arrow (name_at x)) xs (subst (λ (z : Span). z.end ≤ n) (sym d.spans) g.1.0.1) q.0,
+        field_more (suffix.Arrow (name_at x)) (name_at x) xs d g.1.0 q.1,
+      )
   fine (v.index {t} s {v = z} {w} {i = x} {xs} h j ri m rest) g =
-      let p = within_append n (t ∷ z) (s ∷ w) g in let q = fine rest p.1.1 in let o = join (at t) (at s) in
-      (last_in (suffix.Index x o) xs (subst (λ (y : Span). y.end ≤ n) (sym (ends_at x o)) p.1.0.1) q.0, index_more x o xs (fine ri p.0.1) (p.0.0.0, p.1.0.1) q.1)
+      let p = within_append n (t ∷ z) (s ∷ w) g in let q = fine rest p.1.1 in let o = join (at t) (at s) in (
+        last_in (suffix.Index x o) xs (subst (λ (y : Span). y.end ≤ n) (sym (ends_at x o)) p.1.0.1) q.0,
+        index_more x o xs (fine ri p.0.1) (p.0.0.0, p.1.0.1) q.1,
+      )
   fine (v.number {t} {n = m} {y} i) g = made (Shape-F.Number (record { value = m; kind = y })) (at t) g.0 (λ env. tt)
   fine (v.character {t} {b} i) g = made (Shape-F.Character b) (at t) g.0 (λ env. tt)
   fine (v.text {t} i) g = made (Shape-F.Text t.bytes) (at t) g.0 (λ env. tt)
@@ -294,13 +315,16 @@ module _ (n : ℕ) where
   fine (v.member {t} i h) g = made (Shape-F.Member (name_at t)) (at t) g.0 (λ env. tt)
   fine (v.size_of {t} {r} s {w} {c = y} i j rc h m) g =
       let p = within_append n (t ∷ r ∷ w) (s ∷ []) g in let o = join (at t) (at s) in let here : IsIn n o = (p.0.0.0, p.1.0.1) in
-      made (Shape-F.SizeOf y o) o here (λ env. early_append n (type_faults env y) (outcome_faults (on (kind_of env y) (size_outcome env)) o) (type_early env y (type_in rc p.0.1.1))
+      made (Shape-F.SizeOf y o) o here (λ env. early_append n (type_faults env y) (outcome_faults (on (kind_of env y) (size_outcome env)) o)
+      (type_early env y (type_in rc p.0.1.1))
       (early_plain n o (plain_on (kind_of env y) (size_outcome env) (size_plain env)) here))
   fine (v.offset {t} {r} d f s {w} {c = y} i j rc h m x z) g =
       let p = within_append n (t ∷ r ∷ w) (d ∷ f ∷ s ∷ []) g in let o = join (at t) (at s) in let here : IsIn n o = (p.0.0.0, p.1.1.1.0.1) in
-      made (Shape-F.Offset y (name_at f) o) o here (λ env. early_append n (type_faults env y) (outcome_faults (on (kind_of env y) (offset_outcome env (name_at f))) o) (type_early env y (type_in rc p.0.1.1))
+      made (Shape-F.Offset y (name_at f) o) o here (λ env. early_append n (type_faults env y)
+      (outcome_faults (on (kind_of env y) (offset_outcome env (name_at f))) o) (type_early env y (type_in rc p.0.1.1))
       (early_most n o (offset_most env (name_at f) (kind_of env y)) p.1.1.0 here))
-  fine (v.brackets {t} s {w} {a} i r j) g = let p = within_append n (t ∷ w) (s ∷ []) g in bracketed_fine a (join (at t) (at s)) (p.0.0.0, p.1.0.1) (fine r p.0.1)
+  fine (v.brackets {t} s {w} {a} i r j) g = let p = within_append n (t ∷ w) (s ∷ []) g
+      in bracketed_fine a (join (at t) (at s)) (p.0.0.0, p.1.0.1) (fine r p.0.1)
   fine v.no_argument g = tt
   fine (v.arguments {u} {v = z} ra rest) g = let p = within_append n u z g in (fine ra p.0, fine rest p.1)
   fine v.no_more g = tt

@@ -1,5 +1,6 @@
 -- The tokens of bytes are in order, also where the name of an included file is one.
-use Rattle.std.proofs.Common.{◌≡◌, ◌∙◌, refl, sym, ap, subst, ℕ, zero, suc, ◌-◌, ◌+◌, ◌<◌, ◌≤◌, Bool, true, false, cond, ◌&&◌, ◌==◌, List, [], ◌∷◌, ◌++◌, length, take, drop, codes, Option, Some, None, length-append, eqb-true, arith}
+use Rattle.std.proofs.Common.{◌≡◌, ◌∙◌, refl, sym, ap, subst, ℕ, zero, suc, ◌-◌, ◌+◌, ◌<◌, ◌≤◌, Bool, true, false, cond, ◌&&◌, ◌==◌, List, [], ◌∷◌}
+use Rattle.std.proofs.Common.{◌++◌, length, take, drop, codes, Option, Some, None, length-append, eqb-true, arith}
 use Rattle.std.proofs.lemmas.Bool.{cond_both}
 use Rattle.std.specs.Str.{bytes_eq}
 use Rattle.c_lexer.specs.declared.token.BadToken.{BadToken}
@@ -9,7 +10,8 @@ use Rattle.c_lexer.specs.declared.token.TokenKind.TheVariants as k
 use Rattle.c_lexer.specs.Laws.{Covers, last, stopped, next}
 use Rattle.c_lexer.specs.Tokens.{Left, Lexeme, Tokens, all_of}
 use Rattle.c_tree.specs.declared.unit.Include.TheVariants as include
-use Rattle.c_tree.specs.Words.{Token, Word, Named, named, side_by_side, system_file, own_file, file_at, is_file_name, Behind, Other, Hash, IncludeWord, Inside, is_hash, is_include, then_behind, file_behind, words_by, words_behind, words, start_of}
+use Rattle.c_tree.specs.Words.{Token, Word, Named, named, side_by_side, system_file, own_file, file_at, is_file_name, Behind, Other, Hash}
+use Rattle.c_tree.specs.Words.{IncludeWord, Inside, is_hash, is_include, then_behind, file_behind, words_by, words_behind, words, start_of}
 use Rattle.c_tree.specs.Answers.{ending}
 use Rattle.c_grammar.specs.Fronts.{end_of}
 use Rattle.c_fronts.specs.Fronts.{InOrder}
@@ -80,7 +82,8 @@ abbrev Counted : Option Named → Type 0
 Counted None = Unit {0}
 Counted (Some m) = 0 < m.tokens
 
-by_bytes : (a b c d e : Bool) → Counted (cond a (named include.Glib 5) (cond b (named include.GlibObject 7) (cond c (named include.Gio 7) (cond d (named include.String 5) (cond e (named include.Stdlib 5) None)))))
+by_bytes : (a b c d e : Bool) → Counted (cond a (named include.Glib 5)
+    (cond b (named include.GlibObject 7) (cond c (named include.Gio 7) (cond d (named include.String 5) (cond e (named include.Stdlib 5) None)))))
 by_bytes true b c d e = omega arith
 by_bytes false true c d e = omega arith
 by_bytes false false true d e = omega arith
@@ -89,11 +92,13 @@ by_bytes false false false false true = omega arith
 by_bytes false false false false false = tt
 
 system_counted : (at : ℕ) (ts : List Lexeme) → Counted (system_file at ts)
-system_counted at ts = by_bytes (bytes_eq (side_by_side at (take 5 ts)) (codes "<glib.h>")) (bytes_eq (side_by_side at (take 7 ts)) (codes "<glib-object.h>")) (bytes_eq (side_by_side at (take 7 ts)) (codes "<gio/gio.h>"))
+system_counted at ts = by_bytes (bytes_eq (side_by_side at (take 5 ts)) (codes "<glib.h>"))
+    (bytes_eq (side_by_side at (take 7 ts)) (codes "<glib-object.h>")) (bytes_eq (side_by_side at (take 7 ts)) (codes "<gio/gio.h>"))
     (bytes_eq (side_by_side at (take 5 ts)) (codes "<string.h>")) (bytes_eq (side_by_side at (take 5 ts)) (codes "<stdlib.h>"))
 
 own_counted : (z : List ℕ) → Counted (own_file z)
-own_counted z = cond_both (is_file_name (take (length z - 2) z) && bytes_eq (drop (length z - 2) z) (codes ".h")) (named (include.Own (take (length z - 2) z)) 1) None Counted (λ e. omega arith) (λ e. tt)
+own_counted z = cond_both (is_file_name (take (length z - 2) z) && bytes_eq (drop (length z - 2) z) (codes ".h"))
+    (named (include.Own (take (length z - 2) z)) 1) None Counted (λ e. omega arith) (λ e. tt)
 
 kind_counted : (kind : TokenKind) (t : Lexeme) (ts : List Lexeme) → Counted (file_at kind t ts)
 kind_counted (k.Sign sign.Less) t ts = system_counted t.start (t ∷ ts)
@@ -136,7 +141,8 @@ sits_by (Some m) b t ts at n h r more =
     let here : Row t.start n (t ∷ ts) = ((omega arith, r.0.1), r.1) in (
       (r.0.0, omega (arith, side_some m.tokens t ts h r.1.0)),
       more (t.start + length (side_by_side t.start (take m.tokens (t ∷ ts)))) (Inside (m.tokens - 1))
-          (subst (λ (x : ℕ). Row (t.start + length (side_by_side t.start (take x (t ∷ ts)))) n (drop (m.tokens - 1) ts)) (one_more m.tokens h) (side_row (suc (m.tokens - 1)) t.start n (t ∷ ts) here)),
+          (subst (λ (x : ℕ). Row (t.start + length (side_by_side t.start (take x (t ∷ ts)))) n (drop (m.tokens - 1) ts)) (one_more m.tokens h)
+          (side_row (suc (m.tokens - 1)) t.start n (t ∷ ts) here)),
     )
 
 words_sit : (b : Behind) (at n : ℕ) (ts : List Lexeme) → Row at n (passed b ts) → Sits at n (words_behind b ts)
@@ -146,10 +152,12 @@ words_sit IncludeWord at n [] r = r
 words_sit (Inside zero) at n [] r = r
 words_sit (Inside (suc x)) at n [] r = r
 words_sit (Inside (suc x)) at n (t ∷ ts) r = words_sit (Inside x) at n ts r
-words_sit (Inside zero) at n (t ∷ ts) r = sits_by (file_behind (Inside 0) t ts) (Inside 0) t ts at n (counted (Inside 0) t ts) r (λ to c q. words_sit c to n ts q)
+words_sit (Inside zero) at n (t ∷ ts) r = sits_by (file_behind (Inside 0) t ts) (Inside 0) t ts at n (counted (Inside 0) t ts) r
+    (λ to c q. words_sit c to n ts q)
 words_sit Other at n (t ∷ ts) r = sits_by (file_behind Other t ts) Other t ts at n (counted Other t ts) r (λ to c q. words_sit c to n ts q)
 words_sit Hash at n (t ∷ ts) r = sits_by (file_behind Hash t ts) Hash t ts at n (counted Hash t ts) r (λ to c q. words_sit c to n ts q)
-words_sit IncludeWord at n (t ∷ ts) r = sits_by (file_behind IncludeWord t ts) IncludeWord t ts at n (counted IncludeWord t ts) r (λ to c q. words_sit c to n ts q)
+words_sit IncludeWord at n (t ∷ ts) r = sits_by (file_behind IncludeWord t ts) IncludeWord t ts at n (counted IncludeWord t ts) r
+    (λ to c q. words_sit c to n ts q)
 
 first_sits : (at n : ℕ) (w : Word) → Sits at n w → at ≤ start_of n w
 first_sits at n [] h = h
