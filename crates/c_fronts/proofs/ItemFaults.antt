@@ -1,5 +1,6 @@
 -- What is told of items by their parts.
-use Rattle.std.proofs.Common.{◌≡◌, ◌∙◌, refl, sym, ap, ap₂, ℕ, ◌+◌, ◌<◌, Bool, true, false, ◌||◌, nat_lt, if◌then◌else◌, is_some, List, [], ◌∷◌, ◌++◌, length, codes, Option, Some, None, arith, true≢false}
+use Rattle.std.proofs.Common.{◌≡◌, ◌∙◌, refl, sym, ap, ap₂, ℕ, ◌+◌, ◌<◌, Bool, true, false, ◌||◌, nat_lt, if◌then◌else◌, is_some, List, [], ◌∷◌, ◌++◌}
+use Rattle.std.proofs.Common.{length, codes, Option, Some, None, arith, true≢false}
 use Rattle.std.specs.Str.{bytes_eq}
 use Rattle.std.specs.Option.{option_map}
 use Rattle.c_tree.specs.declared.names.CType.{CType}
@@ -22,16 +23,20 @@ use Rattle.c_tree.specs.Words.{Token}
 use Rattle.c_tree.specs.Make.{name_at}
 use Rattle.c_tree.specs.Constants.{member_value, Worth, Is, Ends, Untold}
 use Rattle.c_tree.specs.Library.{Takes, Field as Declared}
-use Rattle.c_tree.specs.Env.{Env, Entry, found, found_in, or_else, declare, opened, laid_out, kind_of, type_sort, with_signature, number_of, structure_named, fields_of}
+use Rattle.c_tree.specs.Env.{Env, Entry, found, found_in, or_else, declare, opened, kind_of, type_sort, with_signature, number_of}
+use Rattle.c_tree.specs.Env.{structure_named, fields_of}
 use Rattle.c_tree.specs.Faults.{fault, misfit}
 use Rattle.c_tree.specs.Checks.{checked, type_faults}
 use Rattle.c_tree.specs.Rules.{checked_block, fit, laid_out_if, not_laid_out}
-use Rattle.c_tree.specs.Unit.{takes_of, again, unlaid, unlaid_optional, unlaid_parameters, unlaid_result, is_void_result, signature_faults, parameter_faults, with_function, with_members, with_item, with_parameters, body_faults, kind_named, variable_twice, ends_faults, function_faults, defined_twice, struct_faults, define_struct, target_faults, label_faults, block_end}
+use Rattle.c_tree.specs.Unit.{takes_of, again, unlaid, unlaid_optional, unlaid_parameters, unlaid_result, is_void_result, signature_faults}
+use Rattle.c_tree.specs.Unit.{parameter_faults, with_function, with_members, with_item, with_parameters, body_faults, kind_named, variable_twice}
+use Rattle.c_tree.specs.Unit.{ends_faults, function_faults, defined_twice, struct_faults, define_struct, target_faults, label_faults, block_end}
 use Rattle.c_grammar.specs.Trees.{type_of, no_stars, base_of}
 use Rattle.c_fronts.proofs.Shows.{Probe, shows_append, shows_three, shows_drop, or_drop, late_one, late_misfit, late_twice, late_undeclared, late_unless}
 use Rattle.c_fronts.proofs.Judging.{late_fit}
 use Rattle.c_fronts.proofs.ValueFaults.{known_end}
-use Rattle.c_fronts.proofs.Telling.{Edge, Blocks, Outside, HasInfo, tell, value_tells, type_tells, LateValue, BehindToken, LateToken, other_twice, item_tells, block_tells}
+use Rattle.c_fronts.proofs.Telling.{Edge, Blocks, Outside, HasInfo, tell, value_tells, type_tells, LateValue, BehindToken, LateToken, other_twice}
+use Rattle.c_fronts.proofs.Telling.{item_tells, block_tells}
 
 -- 1. `GInterfaceInfo` is found behind each item
 
@@ -257,17 +262,20 @@ module _ (edge : Edge) where
       add_none n = omega arith
 
   -- the type of a table by its token
-  info_kind : (env : Env) (k i : Token) → i.bytes ≡ codes "GInterfaceInfo" → base_of i ≡ base.Named (name_at i) → kind_of env (type_of (k ∷ []) i [] no_stars) ≡ kind_named env (codes "GInterfaceInfo")
+  info_kind : (env : Env) (k i : Token) → i.bytes ≡ codes "GInterfaceInfo" → base_of i ≡ base.Named (name_at i)
+      → kind_of env (type_of (k ∷ []) i [] no_stars) ≡ kind_named env (codes "GInterfaceInfo")
   info_kind env k i e b =
       ap (λ (z : _). option_map (λ (k : Kind). record { base = k.base; stars = k.stars + 0 }) (Rattle.c_tree.specs.Env.base_kind env z)) b
-      ∙ ap (λ (z : List ℕ). option_map (λ (k : Kind). record { base = k.base; stars = k.stars + 0 }) (type_sort (found env.scopes z))) e ∙ go (type_sort (found env.scopes (codes "GInterfaceInfo")))
+      ∙ ap (λ (z : List ℕ). option_map (λ (k : Kind). record { base = k.base; stars = k.stars + 0 }) (type_sort (found env.scopes z))) e
+      ∙ go (type_sort (found env.scopes (codes "GInterfaceInfo")))
     where
       go : (o : Option Kind) → option_map (λ (k : Kind). record { base = k.base; stars = k.stars + 0 }) o ≡ o
       go None = refl
       go (Some k) = ap (λ (k : Kind). Some k) (no_more_stars k)
 
   -- nothing is told of the type of a table
-  pub info_silent : (p : Probe) (env : Env) (i : Token) → HasInfo env → i.bytes ≡ codes "GInterfaceInfo" → base_of i ≡ base.Named (name_at i) → tell edge p (Rattle.c_tree.specs.Checks.base_faults env (base_of i)) ≡ false
+  pub info_silent : (p : Probe) (env : Env) (i : Token) → HasInfo env → i.bytes ≡ codes "GInterfaceInfo" → base_of i ≡ base.Named (name_at i)
+      → tell edge p (Rattle.c_tree.specs.Checks.base_faults env (base_of i)) ≡ false
   info_silent p env i h e b = ap (λ (z : _). tell edge p (Rattle.c_tree.specs.Checks.base_faults env z)) b
       ∙ go (found env.scopes i.bytes) (ap (λ (z : List ℕ). is_some (found env.scopes z)) e ∙ h)
     where
@@ -280,7 +288,8 @@ module _ (edge : Edge) where
       ≡ (variable_tells p env (type_of (k ∷ []) i [] no_stars) n || tell edge p (function_faults (found env.scopes g.bytes) (name_at g)))
   table_is p env k i n g h e b =
       let vt = variable_twice (found env.scopes n.bytes) (name_at n) in
-      shows_three edge.last p vt (not_laid_out env (kind_named env (codes "GInterfaceInfo")) (name_at n)) (function_faults (found env.scopes g.bytes) (name_at g))
+      shows_three edge.last p vt (not_laid_out env (kind_named env (codes "GInterfaceInfo")) (name_at n))
+      (function_faults (found env.scopes g.bytes) (name_at g))
       ∙ ap (λ (z : Option Kind). (tell edge p vt || tell edge p (not_laid_out env z (name_at n))) || tell edge p
       (function_faults (found env.scopes g.bytes) (name_at g))) (sym (info_kind env k i e b))
       ∙ ap (λ (z : Bool). ((z || tell edge p vt) || tell edge p (not_laid_out env (kind_of env (type_of (k ∷ []) i [] no_stars)) (name_at n))) || tell edge p

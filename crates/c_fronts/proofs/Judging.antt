@@ -8,7 +8,8 @@ use Rattle.c_tree.specs.Library.{Takes, RowParameter, Number, Pointer, Exactly, 
 use Rattle.c_tree.specs.Env.{Env}
 use Rattle.c_tree.specs.Faults.{misfit, unless}
 use Rattle.c_tree.specs.Checks.{Known, is_null}
-use Rattle.c_tree.specs.Rules.{fit, fit_by, must_be, class_by, any_faults, pair_faults, argument_faults, fit_all, same_literal, called_if, value_call, unit_call, signature_of, row_call}
+use Rattle.c_tree.specs.Rules.{fit, fit_by, must_be, class_by, any_faults, pair_faults, argument_faults, fit_all, same_literal, called_if, value_call}
+use Rattle.c_tree.specs.Rules.{unit_call, signature_of, row_call}
 use Rattle.c_fronts.proofs.Shows.{Probe, shows, shows_append, late_misfit, late_unless, or_both, or_drop}
 
 -- what judges the next argument and those behind it

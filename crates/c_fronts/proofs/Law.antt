@@ -3,7 +3,7 @@ use Rattle.std.proofs.Common.{◌≡◌, ◌∙◌, refl, ℕ, ◌<◌, List, []
 use Rattle.c_tree.specs.declared.kinds.Fault.{Fault}
 use Rattle.c_tree.specs.declared.kinds.Refusal.{Refusal}
 use Rattle.c_tree.specs.Words.{Token, Word}
-use Rattle.c_tree.specs.Answers.{Made, AreItems, Ending, Stops, Begins, Says, faults_of, first_of, known_behind, last_start}
+use Rattle.c_tree.specs.Answers.{faults_of, first_of, known_behind, last_start}
 use Rattle.c_tree.specs.Answers as answer
 use Rattle.c_fronts.specs.Fronts.{InOrder, FrontsAreKnown, StoppedTextsAreRefused}
 use Rattle.c_fronts.proofs.Marks.{Final}

@@ -23,19 +23,26 @@ use Rattle.c_tree.specs.Env.{Env, found, found_in, innermost, declare, opened, k
 use Rattle.c_tree.specs.Faults.{twice, unless}
 use Rattle.c_tree.specs.Checks.{checked, type_faults, base_faults}
 use Rattle.c_tree.specs.Rules.{checked_block, twice_here, not_laid_out}
-use Rattle.c_tree.specs.Unit.{with_parameter, twice_optional, parameter_faults, has_field, field_faults, member_faults, with_members, with_item, function_faults, struct_faults, item_faults, items_faults}
+use Rattle.c_tree.specs.Unit.{with_parameter, twice_optional, parameter_faults, has_field, field_faults, member_faults, with_members, with_item}
+use Rattle.c_tree.specs.Unit.{function_faults, struct_faults, item_faults, items_faults}
 use Rattle.c_grammar.specs.Sorts.{kind, on}
 use Rattle.c_grammar.specs.Tests.{is_main, is_any_name, word_is}
-use Rattle.c_grammar.specs.Trees.{base_of, type_of, no_stars, local, named_parameter, unnamed_parameter, two_stars, signature, struct_name, behind_first, file_in}
+use Rattle.c_grammar.specs.Trees.{base_of, type_of, no_stars, local, named_parameter, unnamed_parameter, two_stars, signature, struct_name}
+use Rattle.c_grammar.specs.Trees.{behind_first, file_in}
 use Rattle.c_grammar.specs.Parts as w
-use Rattle.c_grammar.specs.Parts.{What, Part, tree_of, at}
-use Rattle.c_grammar.specs.Grammar.{form, here, just, int_behind, texts_behind, parameters_behind, declared_end, variable_behind, static_named, table_behind, info_value, info_named, info_behind, static_type, static_const, typed_item}
+use Rattle.c_grammar.specs.Parts.{What, tree_of}
+use Rattle.c_grammar.specs.Grammar.{form, here, just, int_behind, texts_behind, parameters_behind, declared_end, variable_behind, static_named}
+use Rattle.c_grammar.specs.Grammar.{table_behind, info_value, info_named, info_behind, static_type, static_const, typed_item}
 use Rattle.c_grammar.proofs.Tokens.{is_name, is_word}
 use Rattle.c_grammar.proofs.Bytes.{same_bytes}
 use Rattle.c_fronts.proofs.Marks.{m_give, m_take, m_part, m_pick}
 use Rattle.c_fronts.proofs.Shows.{Probe, shows_append, shows_three, shows_drop, or_none, or_drop, late_twice, late_unless}
-use Rattle.c_fronts.proofs.ItemFaults.{info_item, other_late, laid_late, function_late, struct_late, prototype_late, parameters_tell, named_tells, defined_tells, defined_late, body_in, function_is, variable_tells, variable_head_late, variable_is_late, info_silent, table_is}
-use Rattle.c_fronts.proofs.Telling.{Edge, Seen, Among, Outside, Table, Context_of, HasInfo, telling, start_at, Ready_for, tells_of, Done_with, Fact_of, tell, type_tells, base_tells, value_tells, field_tells, head_tells, item_tells, LateValue, LateToken, BehindToken}
+use Rattle.c_fronts.proofs.ItemFaults.{info_item, other_late, laid_late, function_late, struct_late, prototype_late, parameters_tell, named_tells}
+use Rattle.c_fronts.proofs.ItemFaults.{defined_tells, defined_late, body_in, function_is, variable_tells, variable_head_late, variable_is_late}
+use Rattle.c_fronts.proofs.ItemFaults.{info_silent, table_is}
+use Rattle.c_fronts.proofs.Telling.{Edge, Seen, Among, Outside, Table, Context_of, tells_of, Done_with}
+use Rattle.c_fronts.proofs.Telling.{Fact_of, tell, type_tells, base_tells, value_tells, field_tells, head_tells, item_tells, LateToken}
+use Rattle.c_fronts.proofs.Telling.{BehindToken}
 use Rattle.c_fronts.proofs.MarkTypes.{Mark, silent, base_late}
 use Rattle.c_fronts.proofs.MarkValues.{M}
 use Rattle.c_fronts.proofs.MarkStatements.{mark_stmt, twice_late}
@@ -377,7 +384,8 @@ module _ (edge : Edge) (ns : Names) where
   named_base : (i : Token) → is_any_name (kind i) ≡ true → base_of i ≡ base.Named (name_at i)
   named_base i e = ap (λ (x : Terminal). Rattle.c_grammar.specs.Trees.base_in x (name_at i)) (is_name [] i e)
 
-  mark_static_const : (t s i : Token) (c : Outside) → is_any_name (kind i) ≡ true → (b : Bool) → bytes_eq i.bytes (codes "GInterfaceInfo") ≡ b → M edge ns (w.StaticRest t) c (out_base c i) (LateToken edge i) (static_const ns t s i b)
+  mark_static_const : (t s i : Token) (c : Outside) → is_any_name (kind i) ≡ true → (b : Bool) → bytes_eq i.bytes (codes "GInterfaceInfo") ≡ b
+      → M edge ns (w.StaticRest t) c (out_base c i) (LateToken edge i) (static_const ns t s i b)
   mark_static_const t s i c any true e = let same : i.bytes ≡ codes "GInterfaceInfo" = same_bytes i.bytes (codes "GInterfaceInfo") e in
       m_part (record { probe = c.probe; env = c.env; info = c.info; named = same; by_name = named_base i any }) false (λ x. item_tells edge c.probe c.env x)
       (λ o. (info_silent edge c.probe c.env i c.info same (named_base i any), tt)) (λ x f g. refl)

@@ -4,7 +4,7 @@ use Rattle.c_tree.specs.declared.names.Span.{Span}
 use Rattle.c_tree.specs.declared.code.Expr.{Expr}
 use Rattle.c_tree.specs.declared.code.Suffix.{Suffix}
 use Rattle.c_tree.specs.declared.kinds.Fault.{Fault}
-use Rattle.c_tree.specs.Words.{Token, Word, join}
+use Rattle.c_tree.specs.Words.{Token, join}
 use Rattle.c_tree.specs.Words as words
 use Rattle.c_tree.specs.Names.{Names}
 use Rattle.c_tree.specs.Make.{name_at}
@@ -15,7 +15,7 @@ use Rattle.c_grammar.specs.Trees.{field_suffix, index_suffix}
 use Rattle.c_grammar.specs.Tests.{is}
 use Rattle.c_grammar.specs.Sorts.{Name}
 use Rattle.c_grammar.specs.Parts as w
-use Rattle.c_grammar.specs.Parts.{What, Part, tree_of, at}
+use Rattle.c_grammar.specs.Parts.{at}
 use Rattle.c_grammar.specs.Grammar.{form, token, just, index_behind}
 use Rattle.c_fronts.proofs.Marks.{m_give, m_take, m_part, m_pick}
 use Rattle.c_fronts.proofs.Shows.{shows_append, shows_three, or_none, or_both, or_drop, or_turn, or_pairs, late_outcome}

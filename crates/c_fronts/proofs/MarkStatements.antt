@@ -11,7 +11,7 @@ use Rattle.c_tree.specs.declared.code.Block.{Block}
 use Rattle.c_tree.specs.declared.code.Stmt.{Stmt}
 use Rattle.c_tree.specs.declared.code.Stmt.TheVariants as stmt
 use Rattle.c_tree.specs.declared.kinds.Sort.{Sort}
-use Rattle.c_tree.specs.Words.{Token, Word, join}
+use Rattle.c_tree.specs.Words.{Token, join}
 use Rattle.c_tree.specs.Words as words
 use Rattle.c_tree.specs.Names.{Names, Role, TypeName, RowName, role_of}
 use Rattle.c_tree.specs.Types.{can_be_type}
@@ -25,15 +25,22 @@ use Rattle.c_tree.specs.Env.{found_in, innermost}
 use Rattle.c_tree.specs.Unit.{label_faults}
 use Rattle.c_grammar.specs.Trees.{sign_prefix, with_prefixes, one_prefix, name_value, value_call, row_call, call_stmt, local, type_of, no_stars}
 use Rattle.c_grammar.specs.Parts as w
-use Rattle.c_grammar.specs.Parts.{What, Part, tree_of, at}
-use Rattle.c_grammar.specs.Grammar.{C, form, just, call_behind, row_behind, label_behind, named_behind, stored_behind, value_behind, assigned_named, called_or_value, statements_behind, body_behind, body_named, local_end, place_behind}
+use Rattle.c_grammar.specs.Parts.{What, tree_of, at}
+use Rattle.c_grammar.specs.Grammar.{C, form, just, call_behind, row_behind, label_behind, named_behind, stored_behind, value_behind, assigned_named}
+use Rattle.c_grammar.specs.Grammar.{statements_behind, body_behind, body_named, local_end}
 use Rattle.c_fronts.proofs.Marks.{m_give, m_take, m_part, m_pick}
-use Rattle.c_fronts.proofs.Shows.{Probe, shows, gated, shows_append, shows_drop, shows_behind, gate_shut, or_none, or_both, or_drop, late_undeclared, late_twice, late_misfit, late_unless}
+use Rattle.c_fronts.proofs.Shows.{Probe, shows, gated, shows_append, shows_drop, shows_behind, gate_shut, or_none, or_both, or_drop, late_undeclared}
+use Rattle.c_fronts.proofs.Shows.{late_twice, late_misfit, late_unless}
 use Rattle.c_fronts.proofs.Unfold.{known_suffix}
 use Rattle.c_fronts.proofs.Judging.{Rule, rule_of_kind, rule_of_row}
 use Rattle.c_fronts.proofs.ValueFaults.{suffixed_tells}
-use Rattle.c_fronts.proofs.StmtFaults.{add_labels, behind_stmt, label_late, seen_in, seen_behind, sv, assign_late, args_tell, value_call_late, row_name, row_type, row_call_late, seen_from, place_tells, call_stmt_late, return_value_late, return_alone_late, condition_late, switch_tells, switch_late, switch_is, goto_is, label_is, if_goto_is, inside_block, block_stmt_is, if_tells, if_is, if_else_is, stmts_more, of_block, block_is, ends_late}
-use Rattle.c_fronts.proofs.Telling.{Edge, Seen, Passed, Inside, Blocks, Context_of, start_at, Ready_for, tells_of, Done_with, Fact_of, tell, type_tells, base_tells, value_tells, LateValue, LateToken, BehindToken, stmt_tells, stmts_tell, body_tells, block_tells, behind_locals, ends_tell}
+use Rattle.c_fronts.proofs.StmtFaults.{add_labels, behind_stmt, label_late, seen_in, seen_behind, sv, assign_late, args_tell, value_call_late}
+use Rattle.c_fronts.proofs.StmtFaults.{row_name, row_type, row_call_late, seen_from, place_tells, call_stmt_late, return_value_late}
+use Rattle.c_fronts.proofs.StmtFaults.{return_alone_late, condition_late, switch_tells, switch_late, switch_is, goto_is, label_is, if_goto_is}
+use Rattle.c_fronts.proofs.StmtFaults.{inside_block, block_stmt_is, if_tells, if_is, if_else_is, stmts_more, of_block, block_is, ends_late}
+use Rattle.c_fronts.proofs.Telling.{Edge, Seen, Passed, Inside, Blocks, Context_of, start_at, Ready_for, tells_of, Done_with, Fact_of, tell}
+use Rattle.c_fronts.proofs.Telling.{type_tells, base_tells, value_tells, LateValue, LateToken, BehindToken, stmt_tells, stmts_tell, body_tells}
+use Rattle.c_fronts.proofs.Telling.{block_tells, behind_locals, ends_tell}
 use Rattle.c_fronts.proofs.MarkTypes.{Mark, silent, base_late}
 use Rattle.c_fronts.proofs.MarkValues.{M, row_from, suffixed_end, conditional_end, sign_more, prefix_end, mark_bracket, mark_cast, name_late}
 

@@ -11,7 +11,7 @@ use Rattle.c_tree.specs.Env.{Env, found}
 use Rattle.c_tree.specs.Checks.{base_faults, undeclared_if}
 use Rattle.c_grammar.specs.Trees.{base_of, base_in, type_of, no_stars, one_star}
 use Rattle.c_grammar.specs.Parts as w
-use Rattle.c_grammar.specs.Parts.{What, Part, tree_of, at, Starred}
+use Rattle.c_grammar.specs.Parts.{What, at, Starred}
 use Rattle.c_grammar.specs.Grammar.{C, form, base_behind}
 use Rattle.c_fronts.proofs.Marks.{Marked, m_give, m_take, m_part, m_pick}
 use Rattle.c_fronts.proofs.Shows.{Probe, shows, or_none, late_undeclared}

@@ -12,7 +12,7 @@ use Rattle.c_tree.specs.declared.code.Suffix.{Suffix}
 use Rattle.c_tree.specs.declared.code.Shape.TheOpen.{Shape-F}
 use Rattle.c_tree.specs.declared.kinds.Fault.{Fault}
 use Rattle.c_tree.specs.declared.kinds.Sort.{Sort}
-use Rattle.c_tree.specs.Words.{Terminal, Token, Word, join}
+use Rattle.c_tree.specs.Words.{Terminal, Token, join}
 use Rattle.c_tree.specs.Words as words
 use Rattle.c_tree.specs.Names.{Names, Role, FunctionName, MemberName, role_of}
 use Rattle.c_tree.specs.Values.{is_place, tighter}
@@ -20,16 +20,20 @@ use Rattle.c_tree.specs.Make.{name_at, span_of, bracketed, link, choice, chained
 use Rattle.c_tree.specs.Env.{Env, found, kind_of}
 use Rattle.c_tree.specs.Faults.{on, outcome_faults}
 use Rattle.c_tree.specs.Checks as checks
-use Rattle.c_tree.specs.Checks.{KnownSuffix, checked, operand_of, joined, join_outcome, type_faults, cast_faults, undeclared_if, suffix_outcome, suffix_end, suffix_faults, index_faults, size_outcome, offset_outcome}
-use Rattle.c_grammar.specs.Trees.{operator_in, sign_prefix, prefix_in, cast_prefix, with_prefixes, one_prefix, name_value, name_shape, literal, literal_shape, size_of, offset, field_suffix, index_suffix}
+use Rattle.c_tree.specs.Checks.{checked, operand_of, joined, join_outcome, type_faults, cast_faults, undeclared_if}
+use Rattle.c_tree.specs.Checks.{suffix_faults, size_outcome, offset_outcome}
+use Rattle.c_grammar.specs.Trees.{operator_in, sign_prefix, prefix_in, cast_prefix, with_prefixes, one_prefix, name_value, name_shape, literal}
+use Rattle.c_grammar.specs.Trees.{literal_shape, size_of, offset}
 use Rattle.c_grammar.specs.Parts as w
-use Rattle.c_grammar.specs.Parts.{What, Part, tree_of, at}
+use Rattle.c_grammar.specs.Parts.{What, tree_of, at}
 use Rattle.c_grammar.specs.Grammar.{C, form, just, suffixes_behind, place_behind, bracket_end, tail_behind, upto_behind, cast_behind, cast_or_operand}
 use Rattle.c_fronts.proofs.Marks.{Marked, m_give, m_take, m_part, m_pick, m_less}
 use Rattle.c_fronts.proofs.Shows.{shows, shows_append, or_none, or_both, or_drop, late_outcome, late_undeclared, plain_on}
 use Rattle.c_fronts.proofs.Unfold.{value_at, known_suffix}
-use Rattle.c_fronts.proofs.ValueFaults.{bracketed_tells, suffixed_tells, chained_tells, one_more_prefix, prefixed_end, one_more_choice, one_more_link, link_late, lack_late, lack_only, lack_faults, offset_most, size_plain}
-use Rattle.c_fronts.proofs.Telling.{Edge, Seen, Self, self_seen, Chain, Row, Context_of, telling, tells_of, Done_with, Fact_of, tell, type_tells, value_tells, LateValue, LateToken, BehindToken, links_end, suffixes_end}
+use Rattle.c_fronts.proofs.ValueFaults.{bracketed_tells, suffixed_tells, chained_tells, one_more_prefix, prefixed_end, one_more_choice, one_more_link}
+use Rattle.c_fronts.proofs.ValueFaults.{link_late, lack_late, lack_only, lack_faults, offset_most, size_plain}
+use Rattle.c_fronts.proofs.Telling.{Edge, Seen, Self, self_seen, Chain, Row, Context_of, telling, tells_of, Done_with, Fact_of, tell, type_tells}
+use Rattle.c_fronts.proofs.Telling.{value_tells, LateValue, LateToken, BehindToken, links_end, suffixes_end}
 use Rattle.c_fronts.proofs.MarkTypes.{Mark}
 
 -- 1. Ends

@@ -1,5 +1,6 @@
 -- Two texts of a part that begin alike: what is told of their trees up to there is the same, where each form is marked with what is told so far.
-use Rattle.std.proofs.Common.{◌≡◌, ℕ, ◌+◌, Bool, true, false, ◌||◌, List, [], ◌∷◌, ◌++◌, None, Ok, refl, sym, ap, subst, ◌∙◌, append_assoc, append-nil, true≢false, arith}
+use Rattle.std.proofs.Common.{◌≡◌, ℕ, ◌+◌, Bool, true, false, ◌||◌, List, [], ◌∷◌, ◌++◌, None, Ok, refl, sym, ap, subst, ◌∙◌, append_assoc}
+use Rattle.std.proofs.Common.{append-nil, true≢false, arith}
 use Rattle.predictive_grammar.specs.Forms.{Signature, Form, give, take, part, pick, Productions}
 use Rattle.predictive_grammar.specs.Follows.{Word, raw, Follows, given, taken, read, first, second, kept, left_out, Reads}
 use Rattle.predictive_grammar.specs.Steps.{Limits, Outcome}

@@ -1,11 +1,13 @@
 -- What a question finds among the faults that are known where a token begins.
-use Rattle.std.proofs.Common.{◌≡◌, ◌∙◌, refl, ap, ap₂, ℕ, suc, ◌<◌, ◌≤◌, nat_le, nat_lt, Bool, true, false, ◌&&◌, ◌||◌, if◌then◌else◌, List, [], ◌∷◌, ◌++◌, Option, Some, None, arith}
+use Rattle.std.proofs.Common.{◌≡◌, ◌∙◌, refl, ap, ap₂, ℕ, suc, ◌<◌, ◌≤◌, nat_le, nat_lt, Bool, true, false, ◌&&◌, ◌||◌, if◌then◌else◌, List, [], ◌∷◌}
+use Rattle.std.proofs.Common.{◌++◌, Option, Some, None, arith}
 use Rattle.c_tree.specs.declared.kinds.Cause.{Cause}
 use Rattle.c_tree.specs.declared.kinds.Fault.{Fault}
 use Rattle.c_tree.specs.declared.kinds.Kind.{Kind}
 use Rattle.c_tree.specs.declared.names.Name.{Name}
 use Rattle.c_tree.specs.declared.names.Span.{Span}
-use Rattle.c_tree.specs.Faults.{Outcome, Gives, Wrong, Silent, outcome, outcome_faults, on, is_known, misfit, undeclared, twice, unless, later, behind_first, fault}
+use Rattle.c_tree.specs.Faults.{Outcome, Gives, Wrong, Silent, outcome, outcome_faults, on, is_known, misfit, undeclared, twice, unless, later}
+use Rattle.c_tree.specs.Faults.{behind_first, fault}
 
 -- A question: whether it is asked at all, and of which places and causes.
 pub record Probe : Type 0 where

@@ -19,14 +19,18 @@ use Rattle.c_tree.specs.Kinds.{is_scalar, is_integer, is_void, fits}
 use Rattle.c_tree.specs.Env.{Env, found, opened}
 use Rattle.c_tree.specs.Faults.{misfit, unless, fault}
 use Rattle.c_tree.specs.Checks.{checked, undeclared_if}
-use Rattle.c_tree.specs.Rules.{Body, check_stmt, checked_block, inner, condition, must_be, fit, result_fit, call, all_checked, own_faults, value_call, row_call, row_number, type_argument_faults, type_argument_fine, return_by, return_empty, all_faults, all_labels, locals_faults, with_locals}
+use Rattle.c_tree.specs.Rules.{Body, check_stmt, checked_block, inner, condition, must_be, fit, result_fit, call, all_checked, own_faults, value_call}
+use Rattle.c_tree.specs.Rules.{row_call, row_number, type_argument_faults, type_argument_fine, return_by, return_empty, all_faults, all_labels}
+use Rattle.c_tree.specs.Rules.{locals_faults, with_locals}
 use Rattle.c_tree.specs.Unit.{label_faults, target_faults, has_name}
 use Rattle.c_grammar.specs.Trees as trees
-use Rattle.c_fronts.proofs.Shows.{Probe, gated, shows_append, shows_three, shows_drop, shows_behind, or_none, or_both, or_drop, or_pairs, late_misfit, late_unless, late_one}
+use Rattle.c_fronts.proofs.Shows.{Probe, gated, shows_append, shows_three, shows_drop, shows_behind, or_none, or_both, or_drop, or_pairs, late_misfit}
+use Rattle.c_fronts.proofs.Shows.{late_unless, late_one}
 use Rattle.c_fronts.proofs.Unfold.{body_of, body_layer, stmt_at, body_at, block_out}
 use Rattle.c_fronts.proofs.Judging.{judged, rule_of_kind, rule_of_row, late_call, late_row, late_fit, late_class}
 use Rattle.c_fronts.proofs.ValueFaults.{known_end}
-use Rattle.c_fronts.proofs.Telling.{Edge, Seen, Inside, Blocks, tell, value_tells, type_tells, LateValue, behind, stmt_tells, stmts_tell, body_tells, block_tells, behind_locals}
+use Rattle.c_fronts.proofs.Telling.{Edge, Seen, Inside, Blocks, tell, value_tells, LateValue, behind, stmt_tells, stmts_tell, body_tells}
+use Rattle.c_fronts.proofs.Telling.{block_tells}
 
 -- the labels behind some
 abbrev pub add_labels : List Name → List Name → List Name

@@ -3,13 +3,13 @@ use Rattle.std.proofs.Common.{◌≡◌, ◌∙◌, refl, sym, ap, subst, ◌≤
 use Rattle.predictive_grammar.specs.Follows.{Letter, raw, Reads}
 use Rattle.predictive_grammar.specs.Follows as letters
 use Rattle.predictive_grammar.specs.Steps.{Fault, Syntax, LeftOut, Nesting, Number, Outcome}
-use Rattle.predictive_grammar.specs.Exact.{IsWithin, IsText, Found, NoText, TooHigh, TooMany, Breaks, Answers}
+use Rattle.predictive_grammar.specs.Exact.{IsWithin, IsText, Found, NoText, TooHigh, Breaks, Answers}
 use Rattle.predictive_grammar.proofs.Words.{raw-append, within-back}
 use Rattle.c_tree.specs.declared.unit.Item.{Item}
 use Rattle.c_tree.specs.Words.{Token, Word, is_shallow}
 use Rattle.c_tree.specs.Names.{library_names}
 use Rattle.c_tree.specs.Items.{ReadsUnit}
-use Rattle.c_tree.specs.Answers.{AreItems, GoNoFurther, Stops, Whole, syntax_at}
+use Rattle.c_tree.specs.Answers.{GoNoFurther, Whole}
 use Rattle.c_tree.specs.Answers as answer
 use Rattle.c_grammar.specs.Parts.{Part, at, ItemsOf}
 use Rattle.c_grammar.specs.Grammar.{C, forms}
@@ -43,7 +43,13 @@ split (l ∷ u) (t ∷ x) y e = one (split u x y (tail e))
     tail e = cc
 
     one : Split u x → Split (l ∷ u) (t ∷ x)
-    one s = record { front = l ∷ s.front; rest = s.rest; whole = ap (λ (z : letters.Word C). l ∷ z) s.whole; same = ap (λ (z : Word). l.token ∷ z) s.same ∙ ap (λ (z : Token). z ∷ x) (head e) }
+    one s = record {
+      front = l ∷ s.front;
+      rest = s.rest;
+      whole = ap (λ (z : letters.Word C). l ∷ z) s.whole;
+      same =
+          ap (λ (z : Word). l.token ∷ z) s.same ∙ ap (λ (z : Token). z ∷ x) (head e);
+    }
 
 -- where no text goes on with a token, no items do
 no_items : (w : Word) (t : Token) → (Rattle.predictive_grammar.specs.Exact.BeginsText C forms items 0 None (w ++ t ∷ []) → ⊥) → GoNoFurther (w ++ t ∷ [])
@@ -56,7 +62,8 @@ one_on : (text w : Word) (t : Token) (r : Word) → w ++ t ∷ r ≡ (w ++ t ∷
 one_on text w t r = sym (append_assoc w (t ∷ []) r)
 
 -- a token that is the first too deep
-deep : (u : letters.Word C) (x : Letter Token) (z : letters.Word C) (is : List Item) → Reads C forms None items 0 (u ++ x ∷ z) is → 65 ≤ x.level → is_shallow [] (raw u ++ x.token ∷ []) ≡ false
+deep : (u : letters.Word C) (x : Letter Token) (z : letters.Word C) (is : List Item) → Reads C forms None items 0 (u ++ x ∷ z) is → 65 ≤ x.level
+    → is_shallow [] (raw u ++ x.token ∷ []) ≡ false
 deep u x z is d h = go (is_shallow [] (raw u ++ x.token ∷ [])) refl
   where
     parted : Reads C forms None items 0 ((u ++ x ∷ []) ++ z) is
@@ -70,7 +77,8 @@ deep u x z is d h = go (is_shallow [] (raw u ++ x.token ∷ [])) refl
 
 no_number : (u : letters.Word C) (x : Letter Token) (z : letters.Word C) (is : List Item) → Reads C forms None items 0 (u ++ x ∷ z) is → 1 ≤ x.items → ⊥
 no_number u x z is d h =
-    let none = none_begins_items library_names u x z is (subst (λ (y : letters.Word C). Reads C forms None items 0 y is) (sym (append_assoc u (x ∷ []) z)) d) in absurd (omega (arith, h, none))
+    let none = none_begins_items library_names u x z is (subst (λ (y : letters.Word C). Reads C forms None items 0 y is)
+    (sym (append_assoc u (x ∷ []) z)) d) in absurd (omega (arith, h, none))
 
 shallow : (u z : letters.Word C) (is : List Item) → Reads C forms None items 0 (u ++ z) is → IsWithin c_limits u → is_shallow [] (raw u) ≡ true
 shallow u z is d i = (fronts_are_counted library_names u z is d).0 i
@@ -79,13 +87,19 @@ nothing_left : (text : Word) (is : List Item) → Found C forms items 0 c_limits
 nothing_left text is f =
     let same : raw f.word ≡ text = sym (append-nil (raw f.word)) ∙ sym f.front in
     let d : Reads C forms None items 0 (f.word ++ []) is = subst (λ (u : letters.Word C). Reads C forms None items 0 u is) (sym (append-nil f.word)) f.reads in
-    record { items = (items_are_told library_names 0 text is).0 (f.word, same, f.reads); shallow = subst (λ (w : Word). is_shallow [] w ≡ true) same (shallow f.word [] is d f.within) }
+    record {
+      items = (items_are_told library_names 0 text is).0 (f.word, same, f.reads);
+      shallow =
+          subst (λ (w : Word). is_shallow [] w ≡ true) same (shallow f.word [] is d f.within);
+    }
 
-at_token : (text : Word) (u z : letters.Word C) (is : List Item) (t : Token) (r : Word) → text ≡ raw u ++ t ∷ r → IsWithin c_limits u → Reads C forms None items 0 (u ++ z) is
+at_token : (text : Word) (u z : letters.Word C) (is : List Item) (t : Token) (r : Word) → text ≡ raw u ++ t ∷ r → IsWithin c_limits u
+    → Reads C forms None items 0 (u ++ z) is
     → (Rattle.predictive_grammar.specs.Exact.BeginsText C forms items 0 None (raw u ++ t ∷ []) → ⊥) → StopsBefore text (t ∷ r)
 at_token text u z is t r front within d nay = (raw u, front, shallow u z is d within, λ n. answer.at_token (Whole n) (raw u) t r front (no_items (raw u) t nay))
 
-at_end : (text : Word) (u z : letters.Word C) (is : List Item) → text ≡ raw u ++ [] → IsWithin c_limits u → Reads C forms None items 0 (u ++ z) is → ((a : List Item) → IsText C forms items 0 (raw u) a → ⊥) → StopsBefore text []
+at_end : (text : Word) (u z : letters.Word C) (is : List Item) → text ≡ raw u ++ [] → IsWithin c_limits u → Reads C forms None items 0 (u ++ z) is
+    → ((a : List Item) → IsText C forms items 0 (raw u) a → ⊥) → StopsBefore text []
 at_end text u z is front within d whole =
     let same : raw u ≡ text = sym (append-nil (raw u)) ∙ sym front in (
       text,
@@ -101,8 +115,12 @@ by_left text (t ∷ r) f = at_token text f.word f.missing f.value t r f.front f.
 by_level : (text rest : Word) → TooHigh C forms items 0 c_limits text rest → StopsBefore text rest
 by_level text rest f =
     let front : text ≡ raw f.word ++ f.letter.token ∷ f.behind = f.front ∙ ap (λ (z : Word). raw f.word ++ z) f.next in
-    subst (λ (z : Word). StopsBefore text z) (sym f.next)
-    (raw f.word, front, shallow f.word (f.letter ∷ f.missing) f.value f.begins f.within, λ n. answer.at_deep (Whole n) (raw f.word) f.letter.token f.behind front (deep f.word f.letter f.missing f.value f.begins f.high))
+    subst (λ (z : Word). StopsBefore text z) (sym f.next) (
+      raw f.word,
+      front,
+      shallow f.word (f.letter ∷ f.missing) f.value f.begins f.within,
+      λ n. answer.at_deep (Whole n) (raw f.word) f.letter.token f.behind front (deep f.word f.letter f.missing f.value f.begins f.high),
+    )
 
 by_fault : (text rest : Word) (f : Fault ⊥) → Breaks C forms items 0 c_limits text f rest → StopsBefore text rest
 by_fault text rest Syntax b = by_left text rest b
@@ -113,7 +131,8 @@ by_fault text rest Number b = absurd (no_number b.word b.letter b.missing b.valu
 by_outcome : (text : Word) (o : Outcome ⊥ Token (List Item)) → Answers C forms items 0 c_limits text o → ReadOrStopped text o
 by_outcome text (Ok (is, [])) f = nothing_left text is f
 by_outcome text (Ok (is, t ∷ rest)) f =
-    at_token text f.word [] is t rest f.front f.within (subst (λ (u : letters.Word C). Reads C forms None items 0 u is) (sym (append-nil f.word)) f.reads) (f.furthest None)
+    at_token text f.word [] is t rest f.front f.within (subst (λ (u : letters.Word C). Reads C forms None items 0 u is)
+    (sym (append-nil f.word)) f.reads) (f.furthest None)
 by_outcome text (Err (f, rest)) b = by_fault text rest f b
 
 pub reader_stops_where_texts_do : ReaderStopsWhereTextsDo

@@ -1,5 +1,6 @@
 -- What is told of each part of a text, and in which context.
-use Rattle.std.proofs.Common.{◌≡◌, ℕ, ◌<◌, ◌≤◌, Bool, true, false, not, ◌||◌, if◌then◌else◌, is_some, List, [], ◌∷◌, ◌++◌, map, codes, Option, Some, None, arith}
+use Rattle.std.proofs.Common.{◌≡◌, ℕ, ◌<◌, ◌≤◌, Bool, true, false, not, ◌||◌, if◌then◌else◌, is_some, List, [], ◌∷◌, ◌++◌, map, codes, Option, Some}
+use Rattle.std.proofs.Common.{None, arith}
 use Rattle.c_tree.specs.declared.names.CType.{CType}
 use Rattle.c_tree.specs.declared.names.Name.{Name}
 use Rattle.c_tree.specs.declared.names.Span.{Span}
@@ -21,8 +22,10 @@ use Rattle.c_tree.specs.Make.{name_at, span_of, conditional, suffix_span}
 use Rattle.c_tree.specs.Env.{Env, found}
 use Rattle.c_tree.specs.Faults.{twice, unless}
 use Rattle.c_tree.specs.Checks.{Known, checked, type_faults, base_faults, chain_faults, suffix_faults}
-use Rattle.c_tree.specs.Rules.{Context, checked_block, condition, inner, all_checked, own_faults, twice_here, not_laid_out, local_faults, locals_faults, with_locals, all_faults, all_labels}
-use Rattle.c_tree.specs.Unit.{twice_optional, parameter_faults, member_faults, function_faults, label_faults, target_faults, block_end, has_field, field_faults, item_faults, items_faults}
+use Rattle.c_tree.specs.Rules.{Context, checked_block, condition, inner, all_checked, own_faults, twice_here, not_laid_out, local_faults}
+use Rattle.c_tree.specs.Rules.{locals_faults, with_locals, all_faults, all_labels}
+use Rattle.c_tree.specs.Unit.{twice_optional, parameter_faults, member_faults, function_faults, label_faults, target_faults, block_end, has_field}
+use Rattle.c_tree.specs.Unit.{field_faults, item_faults, items_faults}
 use Rattle.c_grammar.specs.Trees.{with_prefixes, base_of}
 use Rattle.c_grammar.specs.Parts as w
 use Rattle.c_grammar.specs.Parts.{What, Part, tree_of}

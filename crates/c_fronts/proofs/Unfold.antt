@@ -10,7 +10,8 @@ use Rattle.c_tree.specs.declared.code.Suffix.TheVariants as suffix
 use Rattle.c_tree.specs.declared.code.Shape.{Shape, roll-Shape}
 use Rattle.c_tree.specs.declared.code.Shape.TheVariants as shape
 use Rattle.c_tree.specs.declared.code.Shape.TheOpen.{Shape-F, Suffix-F, Choice-F, Expr-F, Link-F}
-use Rattle.c_tree.specs.declared.code.Shape.TheFolds.{fold-roll-Shape, fold-Shape, fold-Suffix, fold-Choice, fold-Link, fold_out-Expr, fold_out-Suffix, fold_out-Choice, fold_out-Link, map-Shape, map-Suffix}
+use Rattle.c_tree.specs.declared.code.Shape.TheFolds.{fold-roll-Shape, fold-Shape, fold-Suffix, fold-Choice, fold-Link, fold_out-Expr}
+use Rattle.c_tree.specs.declared.code.Shape.TheFolds.{fold_out-Suffix, fold_out-Choice, fold_out-Link, map-Shape, map-Suffix}
 use Rattle.c_tree.specs.declared.code.Local.{Local}
 use Rattle.c_tree.specs.declared.code.Stmt.{Stmt, roll-Stmt}
 use Rattle.c_tree.specs.declared.code.Stmt.TheVariants as stmt

@@ -18,16 +18,22 @@ use Rattle.c_tree.specs.declared.kinds.Kind.{Kind}
 use Rattle.c_tree.specs.declared.kinds.Fault.{Fault}
 use Rattle.c_tree.specs.declared.kinds.Operand.{Operand}
 use Rattle.c_tree.specs.Words.{Terminal, Token, at, join}
-use Rattle.c_tree.specs.Make.{span_of, last_operand, last_suffix, suffix_span, suffix_layer_span, bracketed, link, choice, chained, prefixed, suffixed, conditional}
+use Rattle.c_tree.specs.Make.{span_of, last_operand, last_suffix, suffix_span, suffix_layer_span, bracketed, link, choice, chained, prefixed}
+use Rattle.c_tree.specs.Make.{suffixed, conditional}
 use Rattle.c_tree.specs.Kinds.{is_scalar}
 use Rattle.c_tree.specs.Library.{Field as Declared}
 use Rattle.c_tree.specs.Env.{Env, fields_of, field_named, laid_out, target, kind_of}
 use Rattle.c_tree.specs.Faults.{Outcome, Gives, Wrong, Lacks, Silent, outcome_faults, on, undeclared}
 use Rattle.c_tree.specs.Checks as c
-use Rattle.c_tree.specs.Checks.{Known, KnownLink, KnownChoice, KnownSuffix, Field, Arrow, Index, checked, operand_of, type_faults, base_faults, undeclared_if, field_of, field_by, field_outcome, field_found, arrow_of, index_of, suffix_outcome, suffix_kind, suffix_end, index_faults, suffix_faults, cast_outcome, prefix_by, prefix_kind, prefix_faults, cast_faults, join_outcome, joined, chain_faults, choice_outcome, choice_operand, choice_faults, size_outcome, offset_outcome, as_long}
+use Rattle.c_tree.specs.Checks.{Known, KnownLink, KnownChoice, KnownSuffix, Field, Arrow, Index, checked, operand_of}
+use Rattle.c_tree.specs.Checks.{field_of, field_by, field_outcome, field_found, arrow_of, suffix_outcome}
+use Rattle.c_tree.specs.Checks.{suffix_end, index_faults, suffix_faults, prefix_by, prefix_kind, prefix_faults, cast_faults}
+use Rattle.c_tree.specs.Checks.{join_outcome, joined, chain_faults, choice_outcome, choice_operand, choice_faults, size_outcome, offset_outcome}
+use Rattle.c_tree.specs.Checks.{as_long}
 use Rattle.c_grammar.specs.Trees.{with_prefixes, one_prefix, field_suffix, index_suffix}
-use Rattle.c_fronts.proofs.Shows.{Probe, shows, shows_append, shows_three, shows_drop, or_none, or_both, or_drop, late_misfit, late_undeclared, late_outcome, IsPlain, plain_gives, plain_wrong, plain_silent, plain_outcome, plain_on, plain_if}
-use Rattle.c_fronts.proofs.Unfold.{value_at, span_out, known_link, known_choice, known_suffix, link_known, choice_known, suffix_known, suffix_at, suffix_out_at}
+use Rattle.c_fronts.proofs.Shows.{Probe, shows, shows_append, shows_three, shows_drop, or_none, or_drop, late_misfit, late_undeclared}
+use Rattle.c_fronts.proofs.Shows.{late_outcome, IsPlain, plain_gives, plain_wrong, plain_silent, plain_outcome, plain_on, plain_if}
+use Rattle.c_fronts.proofs.Unfold.{value_at, span_out, known_link, known_choice, known_suffix, link_known, choice_known, suffix_known, suffix_out_at}
 
 -- 1. Outcomes
 

@@ -8,7 +8,7 @@ use Rattle.c_tree.specs.Names.{Names, library_names}
 use Rattle.c_tree.specs.Env.{library}
 use Rattle.c_tree.specs.Answers.{Made, AreItems, faults_of}
 use Rattle.c_grammar.specs.Parts as w
-use Rattle.c_grammar.specs.Parts.{What, Part, tree_of, at}
+use Rattle.c_grammar.specs.Parts.{What, at}
 use Rattle.c_grammar.specs.Grammar.{C, forms}
 use Rattle.c_grammar.specs.Tables.{tables}
 use Rattle.c_grammar.proofs.Predictive.{predictive}
@@ -17,10 +17,15 @@ use Rattle.c_fronts.proofs.Marks.{Marks, Each, Final, alike}
 use Rattle.c_fronts.proofs.Shows.{Probe, shows}
 use Rattle.c_fronts.proofs.Telling.{Edge, Outside, Context_of, telling, LateToken, BehindToken}
 use Rattle.c_fronts.proofs.MarkTypes.{Mark, mark_consts, mark_stars, mark_type_rest, mark_type_more, mark_any_type}
-use Rattle.c_fronts.proofs.MarkValues.{mark_value, mark_choosing, mark_choosing_tail, mark_upto, mark_links, mark_operand, mark_prefixed, mark_place, mark_primary, mark_unnamed}
+use Rattle.c_fronts.proofs.MarkValues.{mark_value, mark_choosing, mark_choosing_tail, mark_upto, mark_links, mark_operand, mark_prefixed, mark_place}
+use Rattle.c_fronts.proofs.MarkValues.{mark_primary, mark_unnamed}
 use Rattle.c_fronts.proofs.MarkLists.{mark_suffixes, mark_arguments, mark_more_arguments}
-use Rattle.c_fronts.proofs.MarkStatements.{mark_assigned, mark_assigned_tail, mark_value_stmt, mark_named_stmt, mark_else, mark_plain_stmt, mark_statement, mark_statements, mark_local_rest, mark_key_type, mark_body, mark_block, mark_number, mark_goto, mark_cases}
-use Rattle.c_fronts.proofs.MarkItems.{mark_member, mark_members, mark_more_members, mark_local, mark_fields, mark_parameter_end, mark_parameter, mark_more_parameters, mark_parameters, mark_int_type, mark_texts_type, mark_declared, mark_typed_end, mark_static_end, mark_table_inside, mark_info_end, mark_static_rest, mark_typedef_rest, mark_item, mark_items}
+use Rattle.c_fronts.proofs.MarkStatements.{mark_assigned, mark_assigned_tail, mark_value_stmt, mark_named_stmt, mark_else, mark_plain_stmt}
+use Rattle.c_fronts.proofs.MarkStatements.{mark_statement, mark_statements, mark_local_rest, mark_key_type, mark_body, mark_block, mark_number}
+use Rattle.c_fronts.proofs.MarkStatements.{mark_goto, mark_cases}
+use Rattle.c_fronts.proofs.MarkItems.{mark_member, mark_members, mark_more_members, mark_local, mark_fields, mark_parameter_end, mark_parameter}
+use Rattle.c_fronts.proofs.MarkItems.{mark_more_parameters, mark_parameters, mark_int_type, mark_texts_type, mark_declared, mark_typed_end}
+use Rattle.c_fronts.proofs.MarkItems.{mark_static_end, mark_table_inside, mark_info_end, mark_static_rest, mark_typedef_rest, mark_item, mark_items}
 
 -- 1. Every part is marked
 

@@ -14,7 +14,8 @@ InOrder n (t ∷ s ∷ w) = (t.start < t.end) × (t.end ≤ s.start) × InOrder 
 
 -- Any two lists of items whose tokens begin with the same front, and go on behind the place of what stops there, have the same first refusal that is known in front of it.
 abbrev pub FrontsAreKnown : Type 0
-FrontsAreKnown = (own : Fault) (w v v' : Word) (is is' : List Item) → InOrder own.place w → Made own.place v → Made own.place v' → AreItems (w ++ v) is → AreItems (w ++ v') is'
+FrontsAreKnown = (own : Fault) (w v v' : Word) (is is' : List Item) → InOrder own.place w → Made own.place v → Made own.place v'
+    → AreItems (w ++ v) is → AreItems (w ++ v') is'
     → first_of (Some own) (known_behind w (faults_of is)) ≡ first_of (Some own) (known_behind w (faults_of is'))
 
 -- Tokens that stop are refused: by what any one text that begins so has.

@@ -5,7 +5,7 @@ use Rattle.vg_base.specs.declared.event.Fault.TheVariants.{Refused, Memory}
 use Rattle.c_tree.specs.declared.kinds.Refusal.{Refusal}
 use Rattle.c_tree.specs.declared.unit.Unit.{Unit as CUnit}
 use Rattle.c_tree.specs.Answers.{Answers, Reading, reads, unit}
-use Rattle.c_tree.specs.Bare.{SameUnit, bare}
+use Rattle.c_tree.specs.Bare.{bare}
 use Rattle.c_tree.specs.Laws.{OneAnswer}
 use Rattle.c_printer.specs.Printed.{IsTextOf}
 use Rattle.c_round_trip.specs.Laws.{GivesBack, PrintedTextsAreRead}

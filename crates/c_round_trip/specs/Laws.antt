@@ -16,4 +16,5 @@ GivesBack unit (Err Memory) = Unit {0}
 
 -- The text of a unit, within the limit, is read as that unit.
 abbrev pub PrintedTextsAreRead : Type 0
-PrintedTextsAreRead = (unit : CUnit) (bytes : List ℕ) (limit : ℕ) (r : Result CUnit (Answer Refusal)) → IsTextOf unit bytes → length bytes ≤ limit → Reading bytes limit r → GivesBack unit r
+PrintedTextsAreRead = (unit : CUnit) (bytes : List ℕ) (limit : ℕ) (r : Result CUnit (Answer Refusal)) → IsTextOf unit bytes → length bytes ≤ limit
+    → Reading bytes limit r → GivesBack unit r
