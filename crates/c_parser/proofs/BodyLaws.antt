@@ -1,31 +1,29 @@
 -- Blocks by their steps.
-use Rattle.std.proofs.Common.{◌≡◌, ℕ, suc, ◌-◌, ◌≤◌, Bool, true, false, ◌&&◌, if◌then◌else◌, List, [], ◌∷◌, ◌++◌, length, drop, Option, Some, None}
+use Rattle.std.proofs.Common.{◌≡◌, ℕ, suc, ◌-◌, ◌≤◌, Bool, true, false, ◌&&◌, if◌then◌else◌, List, [], ◌∷◌, ◌++◌, length, drop, Some, None}
 use Rattle.std.proofs.Common.{refl, sym, ap, ◌∙◌, append_assoc, append-nil, arith}
 use Rattle.mending_readers.specs.Mending.{mend_then, next_in}
-use Rattle.c_lexer.specs.declared.token.Keyword.TheVariants as keyword
 use Rattle.c_lexer.specs.declared.token.Sign.TheVariants as sign
-use Rattle.c_tree.specs.declared.names.CType.{CType}
 use Rattle.c_tree.specs.declared.code.Local.{Local}
 use Rattle.c_tree.specs.declared.code.Stmt.{Stmt}
 use Rattle.c_tree.specs.Make.{block}
-use Rattle.c_tree.specs.Names.{Names, Declared, role_of, with_local}
+use Rattle.c_tree.specs.Names.{Names, Declared, role_of}
 use Rattle.c_tree.specs.Types.{can_be_type}
 use Rattle.c_tree.specs.Words.{Token, at, join}
 use Rattle.c_grammar.specs.Sorts.{Name, kind, on}
-use Rattle.c_grammar.specs.Tests.{is, begins_type, begins_key_type, begins_plain, begins_statement, goes_on_type, goes_on_local}
+use Rattle.c_grammar.specs.Tests.{is, begins_type, begins_key_type, goes_on_type}
 use Rattle.c_grammar.specs.Parts as part
 use Rattle.c_grammar.specs.Trees as tree
 use Rattle.c_grammar.specs.Grammar as grammar
 use Rattle.c_grammar.specs.Grammar.{C, form}
-use Rattle.c_nodes.specs.Rows.{type_in_rows, row_of, stars_of}
+use Rattle.c_nodes.specs.Rows.{type_in_rows}
 use Rattle.c_nodes.proofs.RowLaws.{type_rows}
 use Rattle.c_cursor.specs.declared.sets.Set.TheVariants as set
-use Rattle.c_cursor.specs.Reading.{Read, Place, one, is_next, read, way, give, first_then, behind}
+use Rattle.c_cursor.specs.Reading.{Read, Place, one, is_next, read, way, first_then, behind}
 use Rattle.c_parser.specs.Pieces.{Parts, type_more, local_end, local_then, locals_then, statement_then, local_behind, statement_behind, body_named}
 use Rattle.c_parser.specs.Rows.{no_stars}
-use Rattle.c_parser.proofs.Thens.{then_just, then_assoc, way_same}
+use Rattle.c_parser.proofs.Thens.{way_same}
 use Rattle.c_parser.proofs.TypeRows.{more_law}
-use Rattle.c_parser.proofs.Walks.{Free, free_give, free_take, free_part, free_pick, free_where, run, then_same, by_form}
+use Rattle.c_parser.proofs.Walks.{Free, free_give, free_take, free_part, free_pick, free_where, run, by_form}
 
 pub local_law : (e : ℕ) (ns : Names) (l : ℕ) (s : Place) → read e ns part.LocalOf l s
     ≡ mend_then (read e ns (part.AnyType true true) l s) (λ c z. local_end e ns c l z)

@@ -1,5 +1,5 @@
 -- A value in brackets by the parsers before and behind its steps.
-use Rattle.std.proofs.Common.{◌≡◌, ℕ, suc, ◌+◌, ◌&&◌, not, Bool, true, false, if◌then◌else◌, Option, Some, None, refl, sym, ap, ◌∙◌, arith}
+use Rattle.std.proofs.Common.{◌≡◌, ℕ, suc, ◌+◌, ◌&&◌, not, Bool, true, false, if◌then◌else◌, Some, sym, ap, ◌∙◌, arith}
 use Rattle.mending_readers.specs.Mending.{mend_then}
 use Rattle.c_lexer.specs.declared.token.Sign.TheVariants as sign
 use Rattle.c_tree.specs.declared.code.Expr.{Expr}
@@ -11,10 +11,9 @@ use Rattle.c_nodes.specs.Seen.{seen}
 use Rattle.c_cursor.specs.declared.parser.Parser.{Parser}
 use Rattle.c_cursor.specs.declared.sets.Set.TheVariants as set
 use Rattle.c_cursor.specs.Gives.{state}
-use Rattle.c_cursor.specs.Reading.{Read, Place, one, is_next, read, way, give}
+use Rattle.c_cursor.specs.Reading.{Read, Place, one, is_next, read, give}
 use Rattle.c_cursor.specs.Scopes.{names_of}
 use Rattle.c_cursor.specs.Steps.{Took}
-use Rattle.c_parser.specs.declared.prefixes.Step.{Step}
 use Rattle.c_parser.specs.declared.prefixes.Step.TheVariants as step
 use Rattle.c_parser.specs.Pieces.{bracketed_of}
 use Rattle.c_parser.specs.Values.{finished, operand_step, cast_step, bracket_step, plain_step}

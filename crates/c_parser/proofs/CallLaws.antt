@@ -1,7 +1,6 @@
 -- Calls, and what is stored, by their steps.
 use Rattle.std.proofs.Common.{◌≡◌, ℕ, suc, ◌&&◌, ◌||◌, not, Bool, true, false, if◌then◌else◌, List, [], ◌∷◌, ◌++◌, Option, Some, None, refl, sym, ap, ◌∙◌}
 use Rattle.mending_readers.specs.Mending.{Going, Stopped, mend_then, next_in}
-use Rattle.c_lexer.specs.declared.token.Sign.{Sign}
 use Rattle.c_lexer.specs.declared.token.Sign.TheVariants as sign
 use Rattle.c_tree.specs.declared.code.Expr.{Expr}
 use Rattle.c_tree.specs.declared.code.Stmt.{Stmt}
@@ -12,9 +11,8 @@ use Rattle.c_tree.specs.Make.{bracketed, conditional, suffixed}
 use Rattle.c_tree.specs.Values.{is_place, prefix_of}
 use Rattle.c_tree.specs.Words as words
 use Rattle.c_tree.specs.Words.{Token, join}
-use Rattle.predictive_grammar.specs.Forms.{Form, give as done}
-use Rattle.c_grammar.specs.Sorts.{Kind, Class, Sort, Name, OfSign, class, kind, on, same, sort_of}
-use Rattle.c_grammar.specs.Tests.{Set, is, sign_is, sign_with, is_prefix, begins_type, begins_prefixed, begins_unnamed, is_callee_role, is_value_role}
+use Rattle.c_grammar.specs.Sorts.{Sort, Name, OfSign, class, kind, on, same, sort_of}
+use Rattle.c_grammar.specs.Tests.{is, sign_is, sign_with, begins_type, is_callee_role, is_value_role}
 use Rattle.c_grammar.specs.Tests.{is_there, name_with}
 use Rattle.c_grammar.specs.Parts as part
 use Rattle.c_grammar.specs.Parts.{What, at, tree_of}
@@ -25,13 +23,12 @@ use Rattle.c_grammar.proofs.Tokens.{is_name_with}
 use Rattle.c_cursor.specs.declared.sets.Set.TheVariants as set
 use Rattle.c_cursor.specs.Reading.{Read, Place, one, is_next, read, way, give, first_then, behind}
 use Rattle.c_cursor.specs.Sets.{is_in, is_row, is_any_prefix}
-use Rattle.c_parser.specs.declared.prefixes.Step.{Step}
 use Rattle.c_parser.specs.declared.prefixes.Step.TheVariants as step
 use Rattle.c_parser.specs.Pieces.{is_address, operand_of, prefixed_of, row_behind, bracketed_of}
-use Rattle.c_parser.specs.Values.{suffixed_of, operand_step, cast_step, bracket_step, plain_step, step_of, choosing_of, call_behind, row_inside}
+use Rattle.c_parser.specs.Values.{suffixed_of, operand_step, cast_step, bracket_step, step_of, choosing_of, call_behind, row_inside}
 use Rattle.c_parser.specs.Values.{stored_of, assigned_value, assigned_step, takes_type}
 use Rattle.c_parser.proofs.Thens.{then_just, then_assoc, way_same, behind_start, behind_more, behind_end}
-use Rattle.c_parser.proofs.TokenLaws.{way_then, give_then, give_twice, behind_nothing, behind_one, taken, same_taken, taken_kind, taken_as}
+use Rattle.c_parser.proofs.TokenLaws.{give_then, behind_nothing, behind_one, taken, same_taken, taken_kind}
 use Rattle.c_parser.proofs.OperandLaws.{primary_law}
 use Rattle.c_parser.proofs.PrefixLaws.{prefix_ways, bracket_go, cast_go, suffixes_go, plain_go, behind_bracket_go, step_go}
 use Rattle.c_parser.proofs.Walks.{Free, free_give, free_take, free_part, free_pick, free_where, run, then_same, by_form}

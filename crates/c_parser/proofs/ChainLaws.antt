@@ -1,9 +1,8 @@
 -- Chains and choices by their steps.
-use Rattle.std.proofs.Common.{◌≡◌, ◌==◌, ℕ, zero, suc, nat_le, Bool, true, false, if◌then◌else◌, List, [], ◌∷◌, ◌++◌, Option, Some, None, refl, sym}
+use Rattle.std.proofs.Common.{◌≡◌, ◌==◌, ℕ, suc, nat_le, Bool, true, false, if◌then◌else◌, List, [], ◌∷◌, ◌++◌, Option, Some, None, refl, sym}
 use Rattle.std.proofs.Common.{ap, ◌∙◌, append_assoc, append-nil, ◌<◌, arith, leb-false, eqb-true}
 use Rattle.std.proofs.lemmas.Bool.{lt-leb}
 use Rattle.mending_readers.specs.Mending.{Going, Stopped, mend_then, next_in}
-use Rattle.c_lexer.specs.declared.token.Sign.{Sign}
 use Rattle.c_lexer.specs.declared.token.Sign.TheVariants as sign
 use Rattle.c_tree.specs.declared.code.Choice.{Choice}
 use Rattle.c_tree.specs.declared.code.Expr.{Expr}
@@ -16,7 +15,6 @@ use Rattle.c_tree.specs.Names.{Names}
 use Rattle.c_tree.specs.Make.{choice, chained, conditional, link}
 use Rattle.c_tree.specs.Values.{binary_of, tighter}
 use Rattle.c_tree.specs.Words.{Token}
-use Rattle.predictive_grammar.specs.Forms.{Form, give as done}
 use Rattle.c_grammar.specs.Sorts.{Kind, Sort, OfSign, kind, on, sort_of}
 use Rattle.c_grammar.specs.Tests.{level_number, is_of_level, is_up_to_level, sign_with, links, links_up_to, sign_is}
 use Rattle.c_grammar.specs.Parts as part
@@ -29,8 +27,8 @@ use Rattle.c_cursor.specs.Reading.{Read, Place, one, is_next, read, way, give, f
 use Rattle.c_cursor.specs.Sets.{is_in}
 use Rattle.c_parser.specs.Values.{prefixed_value, tail_of, chain_of, choice_of, choices_of, conditional_of, choosing_of}
 use Rattle.c_parser.proofs.Thens.{then_just, then_assoc, way_same, behind_start, behind_more, behind_end}
-use Rattle.c_parser.proofs.TokenLaws.{way_then, give_then, give_twice, give_same, behind_nothing, taken}
-use Rattle.c_parser.proofs.Walks.{Free, free_give, free_take, free_part, free_pick, free_where, run, then_same, by_form}
+use Rattle.c_parser.proofs.TokenLaws.{give_then, give_twice, give_same, behind_nothing, taken}
+use Rattle.c_parser.proofs.Walks.{Free, free_give, free_take, free_part, free_where, run, then_same, by_form}
 
 -- 1. Levels
 

@@ -1,5 +1,5 @@
 -- What is left behind a value.
-use Rattle.std.proofs.Common.{◌≡◌, ℕ, ◌<◌, ◌≤◌, Bool, List, Option, Some, None, refl, ap, subst, arith}
+use Rattle.std.proofs.Common.{◌≡◌, ℕ, ◌<◌, ◌≤◌, Bool, List, Some, None, refl, ap, subst, arith}
 use Rattle.mending_readers.specs.Mending.{mend_then}
 use Rattle.c_tree.specs.declared.code.Expr.{Expr}
 use Rattle.c_tree.specs.declared.operators.Level.TheVariants as level

@@ -1,6 +1,6 @@
 -- The scope of a function, and how it ends.
-use Rattle.std.proofs.Common.{◌≡◌, ◌≢◌, ℕ, zero, suc, ◌-◌, ◌≤◌, ◌==◌, ◌&&◌, Bool, true, false, if◌then◌else◌, List, [], ◌∷◌, length, drop, Option}
-use Rattle.std.proofs.Common.{Some, None, refl, sym, ap, ◌∙◌, eqb-true, arith}
+use Rattle.std.proofs.Common.{◌≡◌, ◌≢◌, ℕ, zero, suc, ◌-◌, ◌≤◌, ◌==◌, ◌&&◌, Bool, true, false, if◌then◌else◌, List, [], ◌∷◌, length, drop}
+use Rattle.std.proofs.Common.{Some, refl, sym, ap, ◌∙◌, eqb-true, arith}
 use Rattle.std.specs.List.{list_all}
 use Rattle.mending_readers.specs.Mending.{mend_then}
 use Rattle.c_lexer.specs.declared.token.Sign.TheVariants as sign
@@ -19,10 +19,9 @@ use Rattle.c_grammar.specs.Trees as tree
 use Rattle.c_cursor.specs.Sets.{is_in}
 use Rattle.c_cursor.specs.Steps.{is_base_token}
 use Rattle.c_grammar.specs.Parts as part
-use Rattle.c_nodes.specs.declared.token.Token.{Token as CodeToken}
 use Rattle.c_cursor.specs.declared.sets.Set.TheVariants as set
 use Rattle.c_cursor.specs.Reading.{Read, Place, one, is_next, read}
-use Rattle.c_parser.specs.Items.{texts, with_texts}
+use Rattle.c_parser.specs.Items.{with_texts}
 use Rattle.c_parser.specs.Pieces as piece
 use Rattle.c_parser.specs.Pieces.{named_texts}
 use Rattle.c_parser.proofs.ItemLaws.{declared_law, int_law, with_parameters_texts}

@@ -1,10 +1,9 @@
 -- Items by their steps.
-use Rattle.std.proofs.Common.{◌≡◌, ℕ, suc, Bool, true, false, ◌&&◌, ◌==◌, if◌then◌else◌, List, [], ◌∷◌, ◌++◌, length, Option, Some, None, refl, sym}
-use Rattle.std.proofs.Common.{ap, subst, ◌∙◌, append_assoc, codes}
+use Rattle.std.proofs.Common.{◌≡◌, ℕ, suc, Bool, true, false, ◌&&◌, ◌==◌, List, [], ◌∷◌, ◌++◌, length, Option, Some, None, refl, sym}
+use Rattle.std.proofs.Common.{ap, subst, ◌∙◌}
 use Rattle.std.specs.List.{list_all}
-use Rattle.std.specs.Str.{bytes_eq}
-use Rattle.predictive_grammar.specs.Forms.{Form, give as done, take, part as asks, pick}
-use Rattle.mending_readers.specs.Mending.{Going, Stopped, mend_then, mend_token, mend_walk, take_below, make, next_in}
+use Rattle.predictive_grammar.specs.Forms.{Form, give as done}
+use Rattle.mending_readers.specs.Mending.{Going, Stopped, mend_then, mend_token, mend_walk, next_in}
 use Rattle.c_lexer.specs.declared.token.Keyword.TheVariants as keyword
 use Rattle.c_lexer.specs.declared.token.Sign.TheVariants as sign
 use Rattle.c_lexer.specs.declared.token.TokenKind.TheVariants as k
@@ -19,22 +18,19 @@ use Rattle.c_tree.specs.declared.unit.Signature.{Signature}
 use Rattle.c_tree.specs.Items.{has_name, is_include}
 use Rattle.c_tree.specs.Make.{name_at}
 use Rattle.c_tree.specs.declared.names.Name.{Name as TreeName}
-use Rattle.c_tree.specs.Names.{Names, FunctionName, VariableName, MemberName, role_of, declared, is_an_int, is_int, meaning_of_base, with_item}
+use Rattle.c_tree.specs.Names.{Names, FunctionName, VariableName, MemberName, declared, is_an_int, is_int, meaning_of_base, with_item}
 use Rattle.c_tree.specs.Names.{with_members, with_name, with_parameters}
-use Rattle.c_tree.specs.Types.{can_be_type, is_object}
 use Rattle.c_tree.specs.Words.{Terminal, Of, Token, Word, at}
-use Rattle.c_grammar.specs.Sorts.{Name, Kind, kind, on}
-use Rattle.c_grammar.specs.Tests.{is, word_is, sign_is, is_base, is_main, is_tag, is_name_of, goes_on_type, begins_include, begins_item, on_line}
-use Rattle.c_grammar.specs.Tests.{is_key_base, is_info_or_type}
+use Rattle.c_grammar.specs.Sorts.{Name, kind, on}
+use Rattle.c_grammar.specs.Tests.{is, word_is, sign_is, is_base, is_main, is_tag, is_name_of, begins_include, on_line}
 use Rattle.c_grammar.specs.Parts as part
 use Rattle.c_grammar.specs.Trees as tree
 use Rattle.c_grammar.specs.Grammar as grammar
 use Rattle.c_grammar.specs.Grammar.{C, form}
 use Rattle.c_grammar.specs.Laws.{c_limits}
-use Rattle.c_grammar.specs.Mending.{made_up, made_name, by_tag, behind_stop, c_mender}
+use Rattle.c_grammar.specs.Mending.{made_up}
 use Rattle.c_grammar.proofs.Menders.{mender_unfolds}
 use Rattle.c_nodes.specs.Rows.{row_of, stars_of, type_in_rows}
-use Rattle.c_nodes.proofs.RowLaws.{type_rows}
 use Rattle.c_nodes.specs.declared.types.Stars.{Stars}
 use Rattle.c_cursor.specs.Steps.{is_base_token}
 use Rattle.c_cursor.specs.declared.sets.Set.TheVariants as set
@@ -43,11 +39,11 @@ use Rattle.c_nodes.specs.declared.token.Token.{Token as CodeToken}
 use Rattle.c_parser.specs.Items.{IsOf, texts, with_texts}
 use Rattle.c_parser.specs.Pieces as piece
 use Rattle.c_parser.specs.Pieces.{named_texts, text_then}
-use Rattle.c_cursor.specs.Reading.{Read, Place, one, is_next, read, way, give, first_then, behind}
-use Rattle.c_parser.specs.Rows.{joined, no_stars}
+use Rattle.c_cursor.specs.Reading.{Read, Place, one, is_next, read, way, first_then}
+use Rattle.c_parser.specs.Rows.{joined}
 use Rattle.c_cursor.specs.Sets.{is_in}
-use Rattle.c_parser.proofs.Thens.{then_just, then_assoc, way_same}
-use Rattle.c_parser.proofs.TypeRows.{seen_then, consts_go, rest_law, more_law}
+use Rattle.c_parser.proofs.Thens.{then_just, way_same}
+use Rattle.c_parser.proofs.TypeRows.{seen_then, rest_law}
 use Rattle.c_parser.proofs.Walks.{Free, free_give, free_take, free_part, free_pick, free_where, made_by, token_same, run, then_same, free_walk, by_form}
 
 -- 1. Members

@@ -1,5 +1,5 @@
 -- Types by their steps. No member of an enumeration is read by the names in scope.
-use Rattle.std.proofs.Common.{◌≡◌, ℕ, suc, Bool, true, false, if◌then◌else◌, List, [], ◌∷◌, ◌++◌, Option, Some, None, refl, sym, ap, ◌∙◌}
+use Rattle.std.proofs.Common.{◌≡◌, ℕ, suc, true, false, if◌then◌else◌, List, [], ◌∷◌, ◌++◌, Some, sym, ap, ◌∙◌}
 use Rattle.mending_readers.specs.Mending.{mend_then}
 use Rattle.c_lexer.specs.declared.token.Sign.TheVariants as sign
 use Rattle.c_tree.specs.declared.unit.Item.{Item}
@@ -9,9 +9,8 @@ use Rattle.c_tree.specs.Make.{name_at}
 use Rattle.c_tree.specs.Names.{Names}
 use Rattle.c_tree.specs.Words.{Token}
 use Rattle.c_grammar.specs.Parts as part
-use Rattle.c_grammar.specs.Trees as tree
 use Rattle.c_cursor.specs.declared.sets.Set.TheVariants as set
-use Rattle.c_cursor.specs.Reading.{Read, Place, one, is_next, read, way, first_then, behind}
+use Rattle.c_cursor.specs.Reading.{Read, Place, one, is_next, read, first_then, behind}
 use Rattle.c_parser.specs.Pieces as piece
 use Rattle.c_parser.specs.Statics.{pointed_name, type_signature}
 use Rattle.c_parser.proofs.Thens.{then_assoc, behind_more, behind_end}

@@ -1,18 +1,16 @@
 -- Operands and suffixes by their steps.
-use Rattle.std.proofs.Common.{◌≡◌, ℕ, suc, ◌&&◌, ◌||◌, not, Bool, true, false, if◌then◌else◌, List, [], ◌∷◌, ◌++◌, Option, Some, None, IfSome, refl}
+use Rattle.std.proofs.Common.{◌≡◌, ℕ, suc, Bool, true, false, List, [], ◌∷◌, ◌++◌, Option, Some, None, IfSome, refl}
 use Rattle.std.proofs.Common.{sym, ap, ◌∙◌}
 use Rattle.mending_readers.specs.Mending.{mend_then, next_in}
 use Rattle.c_lexer.specs.declared.token.Keyword.TheVariants as keyword
 use Rattle.c_lexer.specs.declared.token.Sign.TheVariants as sign
-use Rattle.c_tree.specs.declared.code.Expr.{Expr}
 use Rattle.c_tree.specs.declared.code.Suffix.{Suffix}
 use Rattle.c_tree.specs.Names.{Names}
-use Rattle.c_tree.specs.Make.{name_at, suffixed}
-use Rattle.c_tree.specs.Words.{Token}
+use Rattle.c_tree.specs.Make.{name_at}
 use Rattle.c_nodes.specs.declared.token.Token.{Token as SeenToken}
 use Rattle.c_nodes.specs.Seen.{seen}
 use Rattle.c_grammar.specs.Sorts.{kind, on}
-use Rattle.c_grammar.specs.Tests.{is_literal, sign_is, word_is, is_field, name_with, is_value_role}
+use Rattle.c_grammar.specs.Tests.{sign_is, is_field, name_with, is_value_role}
 use Rattle.c_grammar.specs.Parts as part
 use Rattle.c_grammar.specs.Trees as tree
 use Rattle.c_grammar.specs.Grammar as grammar
@@ -23,7 +21,7 @@ use Rattle.c_cursor.specs.Gives.{state}
 use Rattle.c_cursor.specs.Scopes.{names_of}
 use Rattle.c_cursor.specs.Steps.{Took}
 use Rattle.c_cursor.specs.Reading.{Read, Place, one, is_next, read, way, give, first_then, behind}
-use Rattle.c_parser.specs.Values.{size_behind, offset_behind, field_behind, field_of, index_behind, index_of, needed_of, index_option, suffix_of, suffixed_of}
+use Rattle.c_parser.specs.Values.{size_behind, offset_behind, field_behind, field_of, index_behind, index_of, needed_of, index_option, suffix_of}
 use Rattle.c_parser.proofs.Thens.{then_just, then_assoc, way_same, behind_start, behind_more, behind_end}
 use Rattle.c_parser.proofs.TokenLaws.{behind_nothing, behind_one}
 use Rattle.c_parser.proofs.TokenLaws.{way_then, give_then, role_bytes}

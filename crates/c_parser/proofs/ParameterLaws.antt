@@ -1,27 +1,24 @@
 -- Parameters by their steps.
-use Rattle.std.proofs.Common.{◌≡◌, ℕ, suc, ◌≤◌, ◌<◌, is_some, ◌==◌, ◌&&◌, Bool, true, false, if◌then◌else◌, List, [], ◌∷◌, ◌++◌, length, Option, Some}
+use Rattle.std.proofs.Common.{◌≡◌, ℕ, suc, ◌≤◌, ◌<◌, is_some, ◌&&◌, Bool, true, false, if◌then◌else◌, List, [], ◌∷◌, ◌++◌, length, Option, Some}
 use Rattle.std.proofs.Common.{None, refl, sym, ap, ◌∙◌, arith, append-nil}
 use Rattle.std.specs.List.{list_all}
-use Rattle.predictive_grammar.specs.Forms.{Form, part as asks}
 use Rattle.mending_readers.specs.Mending.{mend_then, mend_token, next_in}
 use Rattle.c_lexer.specs.declared.token.Keyword.TheVariants as keyword
 use Rattle.c_lexer.specs.declared.token.Sign.TheVariants as sign
 use Rattle.c_tree.specs.declared.names.CType.{CType}
 use Rattle.c_tree.specs.declared.names.Name.{Name}
-use Rattle.c_tree.specs.declared.names.Span.{Span}
 use Rattle.c_tree.specs.declared.unit.Parameter.{Parameter}
 use Rattle.c_tree.specs.Items.{has_name}
 use Rattle.c_tree.specs.Names.{Names}
 use Rattle.c_tree.specs.Words.{Token, Word}
-use Rattle.c_grammar.specs.Sorts.{Name as NameSort, kind, on}
-use Rattle.c_grammar.specs.Tests.{is, word_is, sign_is, is_base, is_other_base, goes_on_type}
+use Rattle.c_grammar.specs.Sorts.{kind, on}
+use Rattle.c_grammar.specs.Tests.{is, word_is, sign_is, goes_on_type}
 use Rattle.c_grammar.specs.Laws.{c_limits}
 use Rattle.c_grammar.specs.Mending.{made_up}
 use Rattle.c_grammar.specs.Parts as part
 use Rattle.c_grammar.specs.Trees as tree
-use Rattle.c_grammar.specs.Grammar as grammar
 use Rattle.c_grammar.specs.Grammar.{C, form, parameters_behind}
-use Rattle.c_nodes.specs.Rows.{row_of, stars_of}
+use Rattle.c_nodes.specs.Rows.{row_of}
 use Rattle.c_cursor.specs.declared.sets.Set.TheVariants as set
 use Rattle.c_nodes.specs.declared.token.Token.{Token as CodeToken}
 use Rattle.c_nodes.specs.Seen.{seen}

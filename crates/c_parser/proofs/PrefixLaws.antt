@@ -1,8 +1,7 @@
 -- Operators before an operand by their steps.
-use Rattle.std.proofs.Common.{◌≡◌, ℕ, suc, ◌<◌, ◌≤◌, ◌&&◌, ◌||◌, not, Bool, true, false, if◌then◌else◌, List, [], ◌∷◌, ◌++◌, Option, Some, None}
+use Rattle.std.proofs.Common.{◌≡◌, ℕ, suc, ◌&&◌, ◌||◌, not, Bool, true, false, if◌then◌else◌, List, [], ◌∷◌, ◌++◌, Option, Some, None}
 use Rattle.std.proofs.Common.{IfSome, refl, sym, ap, ◌∙◌, append_assoc, append-nil}
-use Rattle.mending_readers.specs.Mending.{Going, Stopped, mend_then, mend_token, next_in}
-use Rattle.c_lexer.specs.declared.token.Sign.{Sign}
+use Rattle.mending_readers.specs.Mending.{Going, Stopped, mend_then, next_in}
 use Rattle.c_lexer.specs.declared.token.Sign.TheVariants as sign
 use Rattle.c_lexer.specs.declared.token.TokenKind.TheVariants as k
 use Rattle.c_tree.specs.declared.code.Expr.{Expr}
@@ -12,11 +11,9 @@ use Rattle.c_tree.specs.Make.{bracketed, prefixed, suffixed}
 use Rattle.c_tree.specs.Values.{is_place}
 use Rattle.c_tree.specs.Words as words
 use Rattle.c_tree.specs.Words.{Terminal, Of, Token, join}
-use Rattle.predictive_grammar.specs.Forms.{Form, give as done}
-use Rattle.c_grammar.specs.Sorts.{Kind, kind, on, OfSign, same, sort_of}
+use Rattle.predictive_grammar.specs.Forms.{give as done}
+use Rattle.c_grammar.specs.Sorts.{kind, on, OfSign, same, sort_of}
 use Rattle.c_grammar.specs.Tests.{sign_is, is_prefix, begins_type}
-use Rattle.c_grammar.specs.Laws.{c_limits}
-use Rattle.c_grammar.specs.Mending.{made_up}
 use Rattle.c_grammar.specs.Parts as part
 use Rattle.c_grammar.specs.Parts.{at, tree_of}
 use Rattle.c_grammar.specs.Trees as tree
@@ -35,9 +32,9 @@ use Rattle.c_cursor.specs.Sets.{is_in, is_any_prefix}
 use Rattle.c_parser.specs.declared.prefixes.Step.{Step}
 use Rattle.c_parser.specs.declared.prefixes.Step.TheVariants as step
 use Rattle.c_parser.specs.Pieces.{bracketed_of, is_address, operand_of, prefixed_of}
-use Rattle.c_parser.specs.Values.{suffixed_of, prefixes, behind_step, wants_place, operand_step, cast_of, cast_step, bracket_step, plain_step}
+use Rattle.c_parser.specs.Values.{suffixed_of, prefixes, behind_step, operand_step, cast_of, cast_step, bracket_step, plain_step}
 use Rattle.c_parser.specs.Values.{step_of, operators_of, prefixed_value, value_behind}
-use Rattle.c_parser.proofs.Thens.{then_just, then_assoc, way_same}
+use Rattle.c_parser.proofs.Thens.{then_assoc, way_same}
 use Rattle.c_parser.proofs.TypeLaws.{some_same}
 use Rattle.c_parser.proofs.TokenLaws.{way_then, give_then, give_twice, give_same, taken, same_taken, taken_kind, taken_as}
 use Rattle.c_parser.proofs.Walks.{Free, free_give, free_take, free_part, free_pick, free_where, run, then_same, by_form}

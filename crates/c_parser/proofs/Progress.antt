@@ -1,17 +1,17 @@
 -- What is left behind what is read.
-use Rattle.std.proofs.Common.{◌≡◌, ℕ, suc, ◌+◌, ◌<◌, ◌≤◌, Bool, true, false, List, [], ◌∷◌, ◌++◌, length, Option, Some, None, refl, sym, ap, subst}
+use Rattle.std.proofs.Common.{◌≡◌, ℕ, ◌<◌, ◌≤◌, Bool, true, length, Some, None, refl, ap, subst}
 use Rattle.std.proofs.Common.{arith, length-append}
 use Rattle.predictive_grammar.specs.Follows.{raw, Reads}
 use Rattle.predictive_grammar.specs.Reading.{reader}
-use Rattle.mending_readers.specs.Mending.{State, Going, Stopped, Mended, mender}
+use Rattle.mending_readers.specs.Mending.{Going, Stopped, Mended}
 use Rattle.mending_readers.proofs.Mends.{Told, Splits, mender_mends}
 use Rattle.predictive_grammar.proofs.Law as steps
 use Rattle.c_tree.specs.declared.names.CType.{CType}
 use Rattle.c_tree.specs.declared.code.Stmt.{Stmt}
 use Rattle.c_tree.specs.declared.unit.Item.{Item}
 use Rattle.c_tree.specs.Names.{Names}
-use Rattle.c_tree.specs.Words.{Token, Word}
-use Rattle.c_grammar.specs.Parts.{What, Part, at, tree_of, AnyType, KeyType, LocalOf, Statement, PlainStmt, ItemOf}
+use Rattle.c_tree.specs.Words.{Token}
+use Rattle.c_grammar.specs.Parts.{What, Part, at, tree_of, AnyType, KeyType, Statement, ItemOf}
 use Rattle.c_grammar.specs.Grammar.{C, forms}
 use Rattle.c_grammar.specs.Laws.{c_limits}
 use Rattle.c_grammar.specs.Mending.{made_up, tallest}
@@ -20,7 +20,7 @@ use Rattle.c_grammar.proofs.Predictive.{predictive}
 use Rattle.c_grammar.proofs.Serving.{serves}
 use Rattle.c_cursor.specs.declared.sets.Set.{Set}
 use Rattle.c_cursor.specs.Gives.{room}
-use Rattle.c_cursor.specs.Reading.{Read, Place, is_next, read}
+use Rattle.c_cursor.specs.Reading.{Place, is_next, read}
 
 -- what the mending reader says of a part
 abbrev Split : (q : Part) → ℕ → Place → tree_of q.what → Place → Type 0

@@ -1,9 +1,8 @@
 -- Steps of values by the parsers before and behind them.
-use Rattle.std.proofs.Common.{◌≡◌, ◌<◌, ◌≤◌, ℕ, suc, ◌+◌, ◌&&◌, Bool, true, false, if◌then◌else◌, List, [], ◌∷◌, ◌++◌, Option, Some, None, IfSome}
+use Rattle.std.proofs.Common.{◌≡◌, ◌<◌, ◌≤◌, ℕ, suc, ◌+◌, ◌&&◌, Bool, true, false, if◌then◌else◌, List, Option, Some, None, IfSome}
 use Rattle.std.proofs.Common.{refl, sym, ap, ◌∙◌, arith}
 use Rattle.mending_readers.specs.Mending.{mend_then}
 use Rattle.c_lexer.specs.declared.token.Sign.TheVariants as sign
-use Rattle.c_tree.specs.declared.code.Expr.{Expr}
 use Rattle.c_tree.specs.declared.code.Suffix.{Suffix}
 use Rattle.c_tree.specs.declared.operators.PrefixOperator.{PrefixOperator}
 use Rattle.c_tree.specs.Names.{Names}
@@ -14,11 +13,9 @@ use Rattle.c_nodes.specs.Seen.{seen}
 use Rattle.c_cursor.specs.declared.parser.Parser.{Parser}
 use Rattle.c_cursor.specs.declared.sets.Set.TheVariants as set
 use Rattle.c_cursor.specs.Gives.{state}
-use Rattle.c_cursor.specs.Reading.{Read, Place, one, is_next, way, give}
+use Rattle.c_cursor.specs.Reading.{Read, Place, one, is_next, give}
 use Rattle.c_cursor.specs.Scopes.{names_of}
 use Rattle.c_cursor.specs.Steps.{Took}
-use Rattle.c_parser.specs.declared.prefixes.Step.{Step}
-use Rattle.c_parser.specs.declared.prefixes.Step.TheVariants as step
 use Rattle.c_parser.specs.Pieces.{is_address}
 use Rattle.c_parser.specs.Values.{index_behind, index_of, index_option, step_of, operators_of}
 use Rattle.c_parser.proofs.PrefixLaws.{constant_address, operators_start, operators_law, operators_after}

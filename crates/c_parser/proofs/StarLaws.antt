@@ -1,10 +1,10 @@
 -- Stars by their steps.
-use Rattle.std.proofs.Common.{◌≡◌, ℕ, suc, ◌+◌, Bool, true, false, if◌then◌else◌, List, [], ◌∷◌, ◌++◌, Option, Some, None, refl, sym, ap, ◌∙◌, arith}
+use Rattle.std.proofs.Common.{◌≡◌, ℕ, suc, ◌+◌, Bool, true, false, if◌then◌else◌, [], ◌∷◌, ◌++◌, Option, Some, None, refl, sym, ap, ◌∙◌, arith}
 use Rattle.mending_readers.specs.Mending.{mend_then}
 use Rattle.c_lexer.specs.declared.token.Sign.TheVariants as sign
 use Rattle.c_tree.specs.declared.names.Span.{Span}
 use Rattle.c_tree.specs.Names.{Names}
-use Rattle.c_tree.specs.Words.{Token, Word, at, end_of}
+use Rattle.c_tree.specs.Words.{Token, Word, at}
 use Rattle.c_grammar.specs.Parts as part
 use Rattle.c_grammar.specs.Parts.{Starred}
 use Rattle.c_grammar.specs.Trees as tree

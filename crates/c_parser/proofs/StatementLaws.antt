@@ -1,10 +1,9 @@
 -- Statements by their steps.
-use Rattle.std.proofs.Common.{◌≡◌, ℕ, suc, Bool, true, false, if◌then◌else◌, List, [], ◌∷◌, ◌++◌, Option, Some, None, refl, sym, ap, ◌∙◌}
+use Rattle.std.proofs.Common.{◌≡◌, ℕ, suc, true, false, List, [], ◌∷◌, ◌++◌, Some, None, refl, sym, ap, ◌∙◌}
 use Rattle.std.proofs.Common.{append_assoc, append-nil}
 use Rattle.mending_readers.specs.Mending.{mend_then, mend_token, next_in}
 use Rattle.c_lexer.specs.declared.token.Keyword.TheVariants as keyword
 use Rattle.c_lexer.specs.declared.token.Sign.TheVariants as sign
-use Rattle.c_lexer.specs.declared.token.TokenKind.TheVariants as k
 use Rattle.c_tree.specs.declared.code.Case.{Case}
 use Rattle.c_tree.specs.declared.code.Expr.{Expr}
 use Rattle.c_tree.specs.declared.code.Block.{Block}
@@ -26,7 +25,7 @@ use Rattle.c_grammar.specs.Trees as tree
 use Rattle.c_grammar.specs.Grammar as grammar
 use Rattle.c_grammar.specs.Grammar.{C, form, named_behind, just, here, where_token, sign_here, token, opening, inner}
 use Rattle.c_cursor.specs.declared.sets.Set.TheVariants as set
-use Rattle.c_cursor.specs.Reading.{Read, Place, one, is_next, read, way, give}
+use Rattle.c_cursor.specs.Reading.{Read, Place, one, is_next, read, way}
 use Rattle.c_cursor.specs.Sets.{is_in}
 use Rattle.c_parser.specs.Pieces.{bracketed_of, is_address, value_inside, operand_of, prefixed_of, starred_of, row_behind, label_behind, named}
 use Rattle.c_parser.specs.Pieces.{with_cases, case_then, cases_then, default_of, else_of, if_behind, switch_behind, return_behind, word_stmt}

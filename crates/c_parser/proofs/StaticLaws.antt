@@ -1,5 +1,5 @@
 -- Static items by their steps.
-use Rattle.std.proofs.Common.{◌≡◌, ℕ, suc, Bool, true, false, ◌&&◌, if◌then◌else◌, List, [], ◌∷◌, ◌++◌, Option, Some, None, refl, sym, ap, ◌∙◌, codes}
+use Rattle.std.proofs.Common.{◌≡◌, ℕ, suc, Bool, true, false, if◌then◌else◌, [], ◌∷◌, Some, None, refl, sym, ap, ◌∙◌, codes}
 use Rattle.std.specs.Str.{bytes_eq}
 use Rattle.mending_readers.specs.Mending.{mend_then, mend_token, next_in}
 use Rattle.c_lexer.specs.declared.token.Keyword.TheVariants as keyword
@@ -8,25 +8,24 @@ use Rattle.c_tree.specs.declared.names.CType.{CType}
 use Rattle.c_tree.specs.declared.unit.Item.{Item}
 use Rattle.c_tree.specs.Names.{Names, role_of}
 use Rattle.c_tree.specs.Types.{can_be_type, is_object}
-use Rattle.c_tree.specs.Words.{Token, Word, at, join}
-use Rattle.c_grammar.specs.Sorts.{Name, kind, on}
-use Rattle.c_grammar.specs.Tests.{is, word_is, sign_is, is_base, is_main, goes_on_type, is_key_base, is_info_or_type}
+use Rattle.c_tree.specs.Words.{Token, Word, at}
+use Rattle.c_grammar.specs.Sorts.{kind, on}
+use Rattle.c_grammar.specs.Tests.{word_is, sign_is, is_main, goes_on_type, is_info_or_type}
 use Rattle.c_grammar.specs.Laws.{c_limits}
 use Rattle.c_grammar.specs.Mending.{made_up}
 use Rattle.c_grammar.specs.Parts as part
 use Rattle.c_grammar.specs.Trees as tree
 use Rattle.c_grammar.specs.Grammar as grammar
 use Rattle.c_grammar.specs.Grammar.{C, form}
-use Rattle.c_nodes.specs.Rows.{row_of, stars_of, type_in_rows}
+use Rattle.c_nodes.specs.Rows.{row_of}
 use Rattle.c_nodes.proofs.RowLaws.{type_rows}
 use Rattle.c_cursor.specs.declared.sets.Set.TheVariants as set
 use Rattle.c_cursor.specs.Gives.{seen_by}
 use Rattle.c_parser.specs.Pieces as piece
-use Rattle.c_cursor.specs.Reading.{Read, Place, one, is_next, read, way, give}
-use Rattle.c_parser.specs.Rows.{no_stars}
+use Rattle.c_cursor.specs.Reading.{Read, Place, one, is_next, read, way}
 use Rattle.c_parser.specs.Statics.{assigned, assigned_object, static_behind, init_word, comma_null}
-use Rattle.c_cursor.specs.Sets.{is_info, is_in}
-use Rattle.c_parser.proofs.Thens.{then_just, then_assoc, way_same}
+use Rattle.c_cursor.specs.Sets.{is_in}
+use Rattle.c_parser.proofs.Thens.{then_just, way_same}
 use Rattle.c_parser.proofs.TypeRows.{seen_then, consts_go, rest_law, more_law}
 use Rattle.c_parser.proofs.Walks.{Free, free_give, free_take, free_part, free_pick, free_where, run, then_same, by_form}
 

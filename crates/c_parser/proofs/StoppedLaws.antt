@@ -1,8 +1,8 @@
 -- What is made up where the reader has stopped.
-use Rattle.std.proofs.Common.{◌≡◌, ℕ, suc, ◌&&◌, not, Bool, true, false, if◌then◌else◌, List, [], ◌∷◌, Option, Some, None, refl, sym, ap, subst, ◌∙◌}
+use Rattle.std.proofs.Common.{◌≡◌, ℕ, suc, Bool, true, false, if◌then◌else◌, [], Some, None, refl, ap, subst, ◌∙◌}
 use Rattle.predictive_grammar.specs.Follows.{Reads}
 use Rattle.predictive_grammar.specs.Reading.{reader}
-use Rattle.mending_readers.specs.Mending.{State, Going, Stopped, Mended, mend_then}
+use Rattle.mending_readers.specs.Mending.{Going, Stopped, Mended, mend_then}
 use Rattle.mending_readers.proofs.Mends.{Told, Splits, mender_mends}
 use Rattle.c_lexer.specs.declared.token.Sign.TheVariants as sign
 use Rattle.c_tree.specs.declared.code.Block.{Block}
@@ -11,7 +11,7 @@ use Rattle.c_tree.specs.declared.operators.Level.TheVariants as level
 use Rattle.c_tree.specs.Make.{block, suffixed}
 use Rattle.c_tree.specs.Names.{Names}
 use Rattle.c_tree.specs.Values.{is_place}
-use Rattle.c_tree.specs.Words.{Token, Word, at, join}
+use Rattle.c_tree.specs.Words.{Token, at, join}
 use Rattle.c_grammar.specs.Parts as part
 use Rattle.c_grammar.specs.Parts.{What, Part, tree_of}
 use Rattle.c_grammar.specs.Grammar.{C, forms}
@@ -24,12 +24,12 @@ use Rattle.c_cursor.specs.declared.parser.Parser.{Parser}
 use Rattle.c_cursor.specs.declared.sets.Set.{Set}
 use Rattle.c_cursor.specs.declared.sets.Set.TheVariants as set
 use Rattle.c_cursor.specs.Gives.{reads, state, state_at}
-use Rattle.c_cursor.specs.Reading.{Read, Place, one, is_next, read, way, give}
+use Rattle.c_cursor.specs.Reading.{Read, Place, one, is_next, read, give}
 use Rattle.c_cursor.specs.Scopes.{names_of}
 use Rattle.c_cursor.specs.State.{rest}
 use Rattle.c_parser.specs.declared.prefixes.Step.TheVariants as step
 use Rattle.c_parser.specs.Pieces.{Parts}
-use Rattle.c_parser.specs.Values.{index_option, suffix_of, suffixed_of, finished, operand_step, plain_step, step_of, prefixed_value, prefixes}
+use Rattle.c_parser.specs.Values.{index_option, suffix_of, suffixed_of, finished, operand_step, plain_step, step_of}
 use Rattle.c_parser.specs.Values.{value_behind, choosing_of, conditional_of}
 use Rattle.c_parser.proofs.BodyLaws.{block_law, body_law}
 use Rattle.c_parser.proofs.ChainLaws.{upto_skips, value_law, choosing_starts, conditional_law}

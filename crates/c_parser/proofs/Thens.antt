@@ -1,7 +1,7 @@
 -- What goes on with what is read.
-use Rattle.std.proofs.Common.{◌≡◌, ℕ, Bool, true, false, if◌then◌else◌, List, [], ◌∷◌, ◌++◌, Option, Some, None, refl, sym, ap, ◌∙◌, append_assoc, append-nil}
+use Rattle.std.proofs.Common.{◌≡◌, Bool, true, false, if◌then◌else◌, List, [], ◌∷◌, ◌++◌, Some, None, refl, sym, ap, append_assoc, append-nil}
 use Rattle.mending_readers.specs.Mending.{mend_then}
-use Rattle.c_cursor.specs.Reading.{Read, Place, give, first_then, behind}
+use Rattle.c_cursor.specs.Reading.{Read, Place, first_then, behind}
 
 pub then_just : {A : Type 0} (o : Read A) → mend_then o (λ a z. Some (a, z)) ≡ o
 then_just None = refl

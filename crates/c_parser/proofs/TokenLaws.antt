@@ -1,9 +1,9 @@
 -- Tokens that pass tests, and the ways that these decide.
-use Rattle.std.proofs.Common.{◌≡◌, ℕ, ◌&&◌, ◌||◌, Bool, true, false, nat_lt, if◌then◌else◌, List, [], ◌∷◌, Option, Some, None, refl, sym, ap, subst, ◌∙◌}
-use Rattle.mending_readers.specs.Mending.{State, Going, Stopped, mend_token, mend_then, take_below, make, next_in}
+use Rattle.std.proofs.Common.{◌≡◌, ℕ, ◌&&◌, Bool, true, false, nat_lt, if◌then◌else◌, List, [], ◌∷◌, Some, None, refl, sym, ap, ◌∙◌}
+use Rattle.mending_readers.specs.Mending.{Going, Stopped, mend_token, mend_then, take_below, make, next_in}
 use Rattle.c_lexer.specs.declared.token.TokenKind.{TokenKind}
 use Rattle.c_lexer.specs.declared.token.TokenKind.TheVariants as k
-use Rattle.c_tree.specs.Names.{Names, Role, role_of}
+use Rattle.c_tree.specs.Names.{Names, Role}
 use Rattle.c_tree.specs.Words.{Of, Word, IsName, meant}
 use Rattle.c_tree.specs.Words as words
 use Rattle.c_grammar.specs.Sorts.{Kind, kind, on}
@@ -16,9 +16,7 @@ use Rattle.c_nodes.specs.declared.token.Terminal.{Terminal}
 use Rattle.c_nodes.specs.declared.token.Terminal.TheVariants as terminal
 use Rattle.c_nodes.specs.declared.token.Token.{Token}
 use Rattle.c_nodes.specs.Seen.{seen, terminal_of, bytes_of}
-use Rattle.c_cursor.specs.declared.sets.Set.{Set}
-use Rattle.c_cursor.specs.Reading.{Read, Place, one, is_next, give, first_then, behind}
-use Rattle.c_cursor.specs.Sets.{is_in}
+use Rattle.c_cursor.specs.Reading.{Read, Place, give, first_then, behind}
 use Rattle.c_parser.proofs.TypeLaws.{some_same}
 
 -- 1. Ways

@@ -1,5 +1,5 @@
 -- The tokens of bytes are in order, also where the name of an included file is one.
-use Rattle.std.proofs.Common.{◌≡◌, ◌∙◌, refl, sym, ap, subst, ℕ, zero, suc, ◌-◌, ◌+◌, ◌<◌, ◌≤◌, Bool, true, false, cond, ◌&&◌, ◌==◌, List, [], ◌∷◌}
+use Rattle.std.proofs.Common.{◌≡◌, ◌∙◌, refl, sym, subst, ℕ, zero, suc, ◌-◌, ◌+◌, ◌<◌, ◌≤◌, Bool, true, false, cond, ◌&&◌, ◌==◌, List, [], ◌∷◌}
 use Rattle.std.proofs.Common.{◌++◌, length, take, drop, codes, Option, Some, None, Result, Ok, Err, nat_le, length-append, eqb-true, arith}
 use Rattle.std.proofs.lemmas.List.{length-drop, length-take-le}
 use Rattle.std.proofs.lemmas.Bool.{cond_both}
@@ -15,7 +15,7 @@ use Rattle.c_lexer.specs.Cut.{cut}
 use Rattle.c_lexer.specs.Tokens.{Left, Lexeme, Answer, Tokens, end, broken, token, all_of, bad_token, begins_line, next_of, next_behind, found_at}
 use Rattle.c_lexer.proofs.NextLemmas.{TokenFound, token_found, token_ends, found_within, gap_within, broken_within}
 use Rattle.c_tree.specs.declared.unit.Include.TheVariants as include
-use Rattle.c_tree.specs.Words.{Token, Word, Named, named, side_by_side, system_file, own_file, file_at, is_file_name, Behind, Other, Hash}
+use Rattle.c_tree.specs.Words.{Word, Named, named, side_by_side, system_file, own_file, file_at, is_file_name, Behind, Other, Hash}
 use Rattle.c_tree.specs.Words.{IncludeWord, Inside, is_hash, is_include, then_behind, file_behind, words_by, words_behind, words, start_of}
 use Rattle.c_tree.specs.Answers.{ending}
 use Rattle.c_grammar.specs.Fronts.{end_of}

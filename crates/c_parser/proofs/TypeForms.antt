@@ -1,10 +1,8 @@
 -- Whole types by their steps.
-use Rattle.std.proofs.Common.{◌≡◌, ℕ, suc, ◌&&◌, Bool, true, false, if◌then◌else◌, List, [], ◌∷◌, ◌++◌, Option, Some, None, refl, sym, ap, ◌∙◌}
+use Rattle.std.proofs.Common.{◌≡◌, ℕ, ◌&&◌, Bool, true, [], ◌∷◌, Some, refl, sym, ap, ◌∙◌}
 use Rattle.mending_readers.specs.Mending.{mend_then}
-use Rattle.c_lexer.specs.declared.token.Keyword.TheVariants as keyword
 use Rattle.c_lexer.specs.declared.token.Sign.TheVariants as sign
 use Rattle.c_tree.specs.declared.names.CType.{CType}
-use Rattle.c_tree.specs.declared.names.Span.{Span}
 use Rattle.c_tree.specs.Names.{Names}
 use Rattle.c_tree.specs.Words.{Token, Word}
 use Rattle.c_grammar.specs.Parts as part
@@ -15,10 +13,10 @@ use Rattle.c_nodes.specs.Rows.{row_of, stars_of, type_in_rows}
 use Rattle.c_nodes.proofs.RowLaws.{type_rows}
 use Rattle.c_cursor.specs.declared.sets.Set.TheVariants as set
 use Rattle.c_cursor.specs.Gives.{seen_by}
-use Rattle.c_cursor.specs.Reading.{Read, Place, one, is_next, read, way}
+use Rattle.c_cursor.specs.Reading.{Read, Place, one, is_next, read}
 use Rattle.c_parser.specs.Pieces.{type_rest}
 use Rattle.c_parser.specs.Rows.{no_stars, with_star, star_behind, key_base, two_stars}
-use Rattle.c_parser.proofs.Thens.{then_just, then_assoc, way_same}
+use Rattle.c_parser.proofs.Thens.{then_just, then_assoc}
 use Rattle.c_parser.proofs.StarLaws.{with_more, with_none, with_all}
 use Rattle.c_parser.proofs.TypeRows.{seen_then, consts_go, rest_law}
 use Rattle.c_parser.proofs.Walks.{Free, free_give, free_take, free_part, free_where, run, then_same, by_form}

@@ -1,5 +1,5 @@
 -- Trees that are seen by less, and rows of tokens.
-use Rattle.std.proofs.Common.{◌≡◌, List, [], ◌∷◌, Option, Some, None, refl, ap}
+use Rattle.std.proofs.Common.{◌≡◌, [], ◌∷◌, Option, Some, None, refl, ap}
 use Rattle.mending_readers.specs.Mending.{Mended, mend_then}
 use Rattle.c_tree.specs.declared.names.Span.{Span}
 use Rattle.c_tree.specs.Words.{Token, Word, at}

@@ -1,17 +1,14 @@
 -- Types by where the tokens around their base stand.
-use Rattle.std.proofs.Common.{◌≡◌, ℕ, suc, Bool, true, false, not, is_some, if◌then◌else◌, List, [], ◌∷◌, ◌++◌, Option, Some, None, refl, sym, ap, ◌∙◌}
-use Rattle.mending_readers.specs.Mending.{Mended, mend_then, mend_token, next_in}
+use Rattle.std.proofs.Common.{◌≡◌, ℕ, Bool, true, false, not, is_some, if◌then◌else◌, [], ◌∷◌, Some, None, refl, sym, ap, ◌∙◌}
+use Rattle.mending_readers.specs.Mending.{mend_then, mend_token}
 use Rattle.c_grammar.specs.Grammar.{C}
 use Rattle.c_grammar.specs.Laws.{c_limits}
 use Rattle.c_grammar.specs.Mending.{made_up}
 use Rattle.c_cursor.specs.Sets.{is_in}
 use Rattle.c_lexer.specs.declared.token.Keyword.TheVariants as keyword
 use Rattle.c_tree.specs.declared.names.CType.{CType}
-use Rattle.c_tree.specs.declared.names.Span.{Span}
 use Rattle.c_tree.specs.Names.{Names}
 use Rattle.c_tree.specs.Words.{Token, Word}
-use Rattle.c_grammar.specs.Sorts.{kind, on}
-use Rattle.c_grammar.specs.Tests.{word_is}
 use Rattle.c_grammar.specs.Parts as part
 use Rattle.c_grammar.specs.Parts.{Starred}
 use Rattle.c_grammar.specs.Trees as tree
@@ -22,8 +19,8 @@ use Rattle.c_cursor.specs.declared.sets.Set.TheVariants as set
 use Rattle.c_cursor.specs.Gives.{seen_by}
 use Rattle.c_cursor.specs.Reading.{Read, Place, one, is_next, read, way}
 use Rattle.c_parser.specs.Pieces.{type_rest, type_more}
-use Rattle.c_parser.proofs.Thens.{then_just, then_assoc, way_same}
-use Rattle.c_parser.proofs.Walks.{Free, free_give, free_take, free_part, free_pick, free_where, run, then_same, by_form}
+use Rattle.c_parser.proofs.Thens.{then_assoc}
+use Rattle.c_parser.proofs.Walks.{Free, free_give, free_part, free_where, run, then_same, by_form}
 
 pub seen_then : {A B D : Type 0} (f : A → B) (o : Read A) (k : B → Place → Read D) → mend_then (seen_by f o) k ≡ mend_then o (λ a z. k (f a) z)
 seen_then f None k = refl

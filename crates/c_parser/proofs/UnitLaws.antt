@@ -1,15 +1,15 @@
 -- What is read of a text, by where the reader is behind its items.
-use Rattle.std.proofs.Common.{◌≡◌, ℕ, suc, ◌<◌, ◌≤◌, Bool, true, false, nat_lt, if◌then◌else◌, List, [], ◌∷◌, ◌++◌, length, Option, Some, None, refl}
+use Rattle.std.proofs.Common.{◌≡◌, ℕ, ◌<◌, ◌≤◌, Bool, true, false, if◌then◌else◌, List, [], ◌∷◌, ◌++◌, length, Option, Some, None, refl}
 use Rattle.std.proofs.Common.{sym, ap, subst, ◌∙◌, arith}
 use Rattle.std.proofs.lemmas.Bool.{lt-ltb, le-ltb}
-use Rattle.mending_readers.specs.Mending.{State, Going, Stopped, Mended}
+use Rattle.mending_readers.specs.Mending.{Going, Mended}
 use Rattle.c_lexer.specs.declared.token.BadToken.{BadToken}
 use Rattle.c_lexer.specs.Tokens.{all_of}
 use Rattle.c_tree.specs.declared.kinds.Fault.{Fault}
 use Rattle.c_tree.specs.declared.unit.Item.{Item}
-use Rattle.c_tree.specs.Names.{Names, library_names}
-use Rattle.c_tree.specs.Words.{Token, Word, words, is_shallow, start_of}
-use Rattle.c_tree.specs.Answers.{Ending, Whole, Broken, AreItems, last_start, ending, syntax_at}
+use Rattle.c_tree.specs.Names.{library_names}
+use Rattle.c_tree.specs.Words.{Token, Word, words, start_of}
+use Rattle.c_tree.specs.Answers.{Ending, Whole, Broken, last_start, ending, syntax_at}
 use Rattle.c_grammar.specs.Fronts.{StopsWith, GivesItems, Completes, fault_at, end_of}
 use Rattle.c_grammar.specs.Laws.{c_limits}
 use Rattle.c_grammar.specs.Mending.{c_mender}
@@ -20,7 +20,7 @@ use Rattle.c_cursor.specs.declared.parser.Parser.{Parser}
 use Rattle.c_cursor.specs.Gives.{reads, state, state_at}
 use Rattle.c_cursor.specs.Scopes.{names_of}
 use Rattle.c_parser.specs.Ordered.{InOrder}
-use Rattle.c_parser.specs.Parsing.{StopsAt, ReadsTo, Parses, StopIs, end_fault, stop_fault, last_before}
+use Rattle.c_parser.specs.Parsing.{StopsAt, ReadsTo, Parses, StopIs, stop_fault, last_before}
 use Rattle.c_cursor.specs.Reading.{read}
 use Rattle.c_cursor.specs.Rest.{tokens_of, bad_of}
 use Rattle.c_cursor.specs.State.{bad, rest}

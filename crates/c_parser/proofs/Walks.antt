@@ -1,7 +1,7 @@
 -- Parts by their forms, where what is made up does not depend on the tokens before.
-use Rattle.std.proofs.Common.{◌≡◌, ℕ, Bool, true, false, if◌then◌else◌, List, [], ◌∷◌, ◌++◌, Option, Some, None, refl, sym, ap, ◌∙◌}
+use Rattle.std.proofs.Common.{◌≡◌, ℕ, Bool, true, false, if◌then◌else◌, [], ◌∷◌, ◌++◌, Some, None, refl, ap, ◌∙◌}
 use Rattle.predictive_grammar.specs.Forms.{Form, give, take, part, pick, bar}
-use Rattle.mending_readers.specs.Mending.{State, Going, Stopped, Mended, first_that, make, take_below, mend_token, mend_then, mend_walk, next_in, stop}
+use Rattle.mending_readers.specs.Mending.{Going, Stopped, first_that, make, take_below, mend_token, mend_then, mend_walk, next_in, stop}
 use Rattle.c_tree.specs.Names.{Names}
 use Rattle.c_tree.specs.Words.{Token, Word}
 use Rattle.c_grammar.specs.Sorts.{Kind, kind}

@@ -1,5 +1,5 @@
 -- The parts that are asked for one level deeper.
-use Rattle.std.specs.Prelude.{◌≡◌, ℕ, suc, ◌<◌, ◌≤◌, Result, Ok, Err, Some, false}
+use Rattle.std.specs.Prelude.{◌≡◌, ℕ, ◌<◌, ◌≤◌, Result, Ok, Err, Some, false}
 use denote.Ref.{MutBor}
 use Rattle.c_grammar.specs.Parts as part
 use Rattle.c_parser.specs.declared.asks.Ask.{Ask}

@@ -1,11 +1,10 @@
 -- What stands in blocks.
 use Rattle.std.specs.Prelude.{◌≡◌, ℕ, ◌-◌, ◌≤◌, ◌<◌, [], length, drop, Some}
-use Rattle.c_tree.specs.Names.{Names, with_local}
-use Rattle.c_grammar.specs.Parts.{Statements}
+use Rattle.c_tree.specs.Names.{Names}
 use Rattle.c_parser.specs.declared.bodies.Begun.{Begun}
 use Rattle.c_parser.specs.declared.bodies.Begun.TheVariants as begun
 use Rattle.c_cursor.specs.declared.parser.Parser.{Parser}
-use Rattle.c_cursor.specs.Gives.{reads, state}
+use Rattle.c_cursor.specs.Gives.{state}
 use Rattle.c_parser.specs.Pieces.{Parts, local_behind, statement_behind}
 use Rattle.c_cursor.specs.Reading.{Read}
 use Rattle.c_cursor.specs.Scopes.{names_of}

@@ -1,5 +1,5 @@
 -- Static items, and the type of a function, by smaller steps.
-use Rattle.std.specs.Prelude.{ℕ, suc, Bool, true, false, if◌then◌else◌, Some}
+use Rattle.std.specs.Prelude.{ℕ, suc, Bool, true, false, Some}
 use Rattle.mending_readers.specs.Mending.{mend_then}
 use Rattle.c_lexer.specs.declared.token.Sign.TheVariants as sign
 use Rattle.c_tree.specs.declared.names.CType.{CType}

@@ -1,7 +1,6 @@
 -- Pieces of values and calls, by the steps that they are read by.
-use Rattle.std.specs.Prelude.{ℕ, suc, ◌<◌, Bool, true, false, ◌||◌, ◌&&◌, not, if◌then◌else◌, List, [], ◌∷◌, ◌++◌, Option, Some, None}
+use Rattle.std.specs.Prelude.{ℕ, suc, ◌<◌, Bool, true, false, ◌&&◌, not, if◌then◌else◌, List, [], ◌∷◌, ◌++◌, Option, Some, None}
 use Rattle.mending_readers.specs.Mending.{mend_then}
-use Rattle.c_lexer.specs.declared.token.Keyword.TheVariants as keyword
 use Rattle.c_lexer.specs.declared.token.Sign.TheVariants as sign
 use Rattle.c_tree.specs.declared.code.Call.{Call}
 use Rattle.c_tree.specs.declared.code.Choice.{Choice}
@@ -20,10 +19,10 @@ use Rattle.c_grammar.specs.Parts as part
 use Rattle.c_grammar.specs.Trees as tree
 use Rattle.c_cursor.specs.declared.sets.Set.{Set}
 use Rattle.c_cursor.specs.declared.sets.Set.TheVariants as set
-use Rattle.c_cursor.specs.Reading.{Read, Place, one, is_next, read, way, give, first_then}
+use Rattle.c_cursor.specs.Reading.{Read, Place, one, is_next, read, way, give}
 use Rattle.c_parser.specs.declared.prefixes.Step.{Step}
 use Rattle.c_parser.specs.declared.prefixes.Step.TheVariants as step
-use Rattle.c_parser.specs.Pieces.{bracketed_of, is_address, operand_of, prefixed_of, row_behind}
+use Rattle.c_parser.specs.Pieces.{bracketed_of, is_address, operand_of, prefixed_of}
 
 -- 1. Operands
 

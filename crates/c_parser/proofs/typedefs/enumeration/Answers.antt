@@ -3,7 +3,6 @@ use Rattle.c_lexer.specs.declared.token.Sign.TheVariants as sign
 use Rattle.c_tree.specs.declared.names.Name.{Name}
 use Rattle.c_tree.specs.declared.unit.Item.TheVariants as item
 use Rattle.c_tree.specs.declared.unit.Member.{Member}
-use Rattle.c_tree.specs.Make.{name_at}
 use Rattle.c_grammar.specs.Parts as part
 use Rattle.c_nodes.specs.Seen.{seen}
 use Rattle.c_cursor.specs.declared.sets.Set.TheVariants as set

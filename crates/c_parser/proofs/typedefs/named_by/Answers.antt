@@ -1,4 +1,4 @@
-use Rattle.std.proofs.Common.{◌≡◌, ℕ, [], ◌∷◌, List, Some, sym, ap, ◌∙◌}
+use Rattle.std.proofs.Common.{ℕ, [], ◌∷◌, List, Some, sym, ap, ◌∙◌}
 use Rattle.mending_readers.specs.Mending.{mend_token}
 use Rattle.c_grammar.specs.Grammar.{C}
 use Rattle.c_grammar.specs.Laws.{c_limits}

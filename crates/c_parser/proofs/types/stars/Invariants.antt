@@ -1,7 +1,6 @@
 use Rattle.std.proofs.Common.{◌≡◌, false}
 use Rattle.c_grammar.specs.Parts.{Stars}
-use Rattle.c_nodes.specs.Rows.{stars_of}
-use Rattle.c_cursor.specs.Gives.{reads, room, seen_by, state}
+use Rattle.c_cursor.specs.Gives.{reads, room, state}
 use Rattle.c_parser.specs.Rows.{no_stars, stars_behind}
 use Rattle.c_cursor.specs.State.{bad}
 use Rattle.c_parser.proofs.types.stars.Given as goal

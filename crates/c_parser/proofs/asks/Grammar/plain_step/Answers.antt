@@ -1,4 +1,4 @@
-use Rattle.std.proofs.Common.{◌≡◌, ◌∙◌, sym}
+use Rattle.std.proofs.Common.{◌∙◌, sym}
 use Rattle.c_cursor.specs.Gives.{state}
 use Rattle.c_parser.proofs.BracketSteps.{bracket_taken}
 use Rattle.c_parser.proofs.asks.Grammar.plain_step.Goals as goal

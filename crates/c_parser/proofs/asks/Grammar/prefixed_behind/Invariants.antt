@@ -1,5 +1,5 @@
 use Rattle.std.proofs.Common.{◌≡◌, ◌&&◌, false}
-use Rattle.c_cursor.specs.Gives.{reads, room, state}
+use Rattle.c_cursor.specs.Gives.{room, state}
 use Rattle.c_cursor.specs.Scopes.{names_of}
 use Rattle.c_cursor.specs.State.{bad}
 use Rattle.c_parser.specs.Pieces.{prefixed_of}
