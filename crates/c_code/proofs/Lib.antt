@@ -3,3 +3,8 @@ pub mod Seen
 pub mod Moved
 pub mod Levels
 pub mod Values
+pub mod Silent
+pub mod Library
+pub mod Calls
+pub mod Performed
+pub mod Stepped

@@ -1,6 +1,7 @@
 -- The code of statements: kinds, cells and labels are known before the run.
 use Rattle.std.specs.Prelude.{ℕ, suc, Bool, true, false, if◌then◌else◌, ℤ, pos, negsuc, List, [], ◌∷◌, map, codes, Option, Some, None}
 use Rattle.std.specs.Str.{bytes_eq}
+use Rattle.std.specs.Option.{is_some}
 use Rattle.c_tree.specs.declared.names.Name.{Name}
 use Rattle.c_tree.specs.declared.names.CType.{CType}
 use Rattle.c_tree.specs.declared.code.Expr.{Expr}
@@ -218,11 +219,7 @@ routine_codes env t = map (routine_code env t) t.routines
 
 -- each function of the library that is called has code, or does not exist
 abbrev pub has_code : CCallee → Bool
-has_code (callee.Row n) = has (function_named n.text)
-  where
-    has : Option LibraryFunction → Bool
-    has None = false
-    has (Some f) = true
+has_code (callee.Row n) = is_some (function_named n.text)
 has_code (callee.Value e) = true
 
 abbrev pub act_has_code : meaning.Act → Bool
