@@ -1,14 +1,13 @@
 -- Calls by code, in a context.
-use Rattle.std.proofs.Common.{◌≡◌, ◌∙◌, refl, sym, ap, ap₂, subst, ℕ, Bool, true, false, List, [], ◌∷◌, map, Option, Some, None, Ok, Err}
+use Rattle.std.proofs.Common.{◌≡◌, ◌∙◌, refl, ap, Bool, true, false, List, [], ◌∷◌, map, Option, Ok, Err}
 use Rattle.std.specs.Prelude.{if◌then◌else◌}
-use Rattle.vg_base.specs.declared.event.UndefKind.TheVariants as undef
 use Rattle.c_tree.specs.declared.code.Expr.{Expr}
 use Rattle.c_tree.specs.declared.kinds.Kind.{Kind}
 use Rattle.c_tree.specs.Kinds.{widened, is_integer}
 use Rattle.c_tree.specs.Library.{RowParameter, Number, Any, Pairs}
 use Rattle.c_tree.specs.Checks.{Known}
 use Rattle.c_meaning.specs.declared.cell.Cell.{Cell}
-use Rattle.c_meaning.specs.State.{State, Place, Value, Scalar, Struct}
+use Rattle.c_meaning.specs.State.{Value, Scalar, Struct}
 use Rattle.c_meaning.specs.Layout.{known}
 use Rattle.c_meaning.specs.Blocks.{Answer, bind}
 use Rattle.c_meaning.specs.Numbers.{as_kind, scalar, converted}
@@ -16,14 +15,12 @@ use Rattle.c_meaning.specs.Values as meaning
 use Rattle.c_meaning.specs.Values.{Context, Program, Here, meant}
 use Rattle.c_meaning.specs.Steps as steps
 use Rattle.cell_heap.specs.States.{heap_of}
-use Rattle.c_code.specs.declared.code.Code.{Code}
 use Rattle.c_code.specs.Coded as coded
-use Rattle.c_code.specs.Resolved as code
-use Rattle.c_code.specs.Resolved.{Bearings, value_code, place_code, in_kind, kind_at, resolved}
+use Rattle.c_code.specs.Resolved.{Bearings, value_code, place_code, in_kind, kind_at}
 use Rattle.c_code.specs.Laws.{bearings_of}
 use Rattle.c_code.specs.Statements.{argument_codes, free_code, row_code, row_codes}
 use Rattle.c_code.specs.Machine as machine
-use Rattle.c_code.proofs.Moved.{IsValue, value_is, place_is, convert_on}
+use Rattle.c_code.proofs.Moved.{value_is, place_is, convert_on}
 use Rattle.c_code.proofs.Values.{alike}
 
 -- a unit with its own meaning, at a place of it

@@ -1,5 +1,5 @@
 -- Code and meaning of one level of a value, from those of its parts.
-use Rattle.std.proofs.Common.{◌≡◌, ◌∙◌, refl, sym, ap, ap₂, subst, ℕ, Bool, ◌&&◌, true, false, ℤ, pos, neg_ℤ, ◌*ℤ◌, List, [], ◌∷◌, map, Option, Some, None, Ok, Err}
+use Rattle.std.proofs.Common.{◌≡◌, ◌∙◌, refl, ap, ap₂, subst, ◌&&◌, true, false, ℤ, pos, neg_ℤ, ◌*ℤ◌, List, [], ◌∷◌, map, Option}
 use Rattle.std.specs.Prelude.{if◌then◌else◌}
 use Rattle.c_tree.specs.declared.names.Name.{Name}
 use Rattle.c_tree.specs.declared.names.Span.{Span}
@@ -14,15 +14,13 @@ use Rattle.c_tree.specs.Faults.{outcome_kind}
 use Rattle.c_tree.specs.Checks.{Known, KnownLink, KnownChoice, KnownSuffix, operand_of, prefix_kind, suffix_outcome, joined, choice_operand}
 use Rattle.c_tree.specs.Checks as check
 use Rattle.c_meaning.specs.declared.cell.Cell.{Cell}
-use Rattle.c_meaning.specs.State.{Place, Value, Scalar}
+use Rattle.c_meaning.specs.State.{Value}
 use Rattle.c_meaning.specs.Layout.{known, offset}
 use Rattle.c_meaning.specs.Blocks.{Answer, bind}
 use Rattle.c_meaning.specs.Numbers.{number_of, scalar, converted, is_false, calculated, difference}
 use Rattle.c_meaning.specs.Values as meaning
 use Rattle.c_meaning.specs.Values.{Context, Later, kind_operand, read_place, one_of, shortened}
 use Rattle.cell_heap.specs.States.{heap_of}
-use Rattle.c_code.specs.declared.code.Operation.{Operation}
-use Rattle.c_code.specs.declared.code.Alternative.{Alternative}
 use Rattle.c_code.specs.Looks.{Heap}
 use Rattle.c_code.specs.Coded.{Eval, Operated, Chosen, coded, value_by, as_value, pointer_result, combined, operate, operated, chosen}
 use Rattle.c_code.specs.Resolved as code
@@ -97,9 +95,9 @@ module _ (c : Context) where
   prefixed_is [] a m h = record { value = h.value c; place = h.place c }
   prefixed_is (p ∷ ps) a m h =
       subst (λ (k : Option Kind). BothAre c (code.prefixed c.scope.env (p ∷ ps) (kind_part here a) (both here a))
-          (meaning.before c p.prefix (prefix_kind c.scope.env (p ∷ ps) k) (meaning.prefixed c ps m))) (kind_known c a m h)
+      (meaning.before c p.prefix (prefix_kind c.scope.env (p ∷ ps) k) (meaning.prefixed c ps m))) (kind_known c a m h)
       (before_is c p.prefix (prefix_kind c.scope.env (p ∷ ps) (kind_part here a))
-          (code.prefixed c.scope.env ps (kind_part here a) (both here a)) (meaning.prefixed c ps m) (prefixed_is ps a m h))
+      (code.prefixed c.scope.env ps (kind_part here a) (both here a)) (meaning.prefixed c ps m) (prefixed_is ps a m h))
 
   -- a suffix
   suffix_is : {x : PartSuffix} {y : meaning.PartSuffix} (k : Kind) (a : Both) (m : meaning.Both) → BothAre c a m → AlikeSuffix x y
@@ -118,9 +116,9 @@ module _ (c : Context) where
       let e : IsPlace c p q = suffix_is (known k) a m h s in
       let j = outcome_kind (suffix_outcome c.scope.env k (code.known_suffix x)) in
       subst (λ (z : KnownSuffix). let i = outcome_kind (suffix_outcome c.scope.env k z) in
-          IsPlace c (code.suffixes_place here j (record { value = code.read c.scope.env j p; place = p }) xs) (meaning.suffixes_place c i (λ u. bind q (read_place c i)) (λ u. q) ys)) (suffix_known s)
+      IsPlace c (code.suffixes_place here j (record { value = code.read c.scope.env j p; place = p }) xs) (meaning.suffixes_place c i (λ u. bind q (read_place c i)) (λ u. q) ys)) (suffix_known s)
       (suffixes_is t j (record { value = code.read c.scope.env j p; place = p }) (record { value = λ u. bind q (read_place c j); place = λ u. q })
-          (record { value = read_on c j p q e; place = e }))
+      (record { value = read_on c j p q e; place = e }))
 
   -- an operation of kinds j and k
   abbrev operated_by : BinaryOperator → Kind → Kind → Kind → Eval → Operated
@@ -154,14 +152,14 @@ module _ (c : Context) where
       let rest = map operation_does (operations here r xs) in
       let made = operated_by x.operator (kind_operand r) (kind_operand a) (kind_operand b) (coded (x.operand.value here)) in
       ap (λ (o : Operated). operated heap c.frame (bind v (operate heap c.frame o o.operator)) rest)
-          (operation_is (record { operator = x.operator; gives = kind_operand r; left = kind_operand a; right = kind_operand b; step = cells_of c.scope.env (target (kind_operand a)); operand = x.operand.value here }))
+      (operation_is (record { operator = x.operator; gives = kind_operand r; left = kind_operand a; right = kind_operand b; step = cells_of c.scope.env (target (kind_operand a)); operand = x.operand.value here }))
       ∙ (λ i. operated heap c.frame (bind v (λ u. operate_is x.operator (kind_operand r) (kind_operand a) (kind_operand b) (coded (x.operand.value here)) (y.operand.value c)
-          (value_is c (x.operand.value here) (y.operand.value c) (h.operand.value c)) u i)) rest)
+      (value_is c (x.operand.value here) (y.operand.value c) (h.operand.value c)) u i)) rest)
       ∙ operated_is t r (bind v (meaning.link_value c x.operator (kind_operand r) (kind_operand a) (kind_operand b) (λ u. y.operand.value c)))
       ∙ ap₂ (λ (o : BinaryOperator) (k : Known).
-          let d = operand_of c.scope.env k in let s = joined c.scope.env o a d in
-          meaning.chain_value c s (bind v (meaning.link_value c o (kind_operand s) (kind_operand a) (kind_operand d) (λ u. y.operand.value c))) ys)
-          h.operator h.operand.known
+      let d = operand_of c.scope.env k in let s = joined c.scope.env o a d in
+      meaning.chain_value c s (bind v (meaning.link_value c o (kind_operand s) (kind_operand a) (kind_operand d) (λ u. y.operand.value c))) ys)
+      h.operator h.operand.known
 
   -- choices, and the value behind the last
   pub chosen_is : {xs : List PartChoice} {ys : List meaning.PartChoice} → AlikeLists AlikeChoice xs ys → (e : Part) (m : meaning.Part) → Alike e m
@@ -172,8 +170,8 @@ module _ (c : Context) where
       let rest = map alternative_does (alternatives here xs e) in
       ap (λ (a : Chosen). chosen heap c.frame (a ∷ rest) (coded (e.value here))) (alternative_is (record { test = x.test.value here; yes = x.yes.value here; gives = gives }))
       ∙ (λ i. bind (value_is c (x.test.value here) (y.test.value c) (s.test.value c) i) (λ z. bind (scalar z) (λ w.
-          bind (one_of (is_false w) (λ u. chosen_is t e m h i) (λ u. value_is c (x.yes.value here) (y.yes.value c) (s.yes.value c) i)) (converted gives))))
+      bind (one_of (is_false w) (λ u. chosen_is t e m h i) (λ u. value_is c (x.yes.value here) (y.yes.value c) (s.yes.value c) i)) (converted gives))))
       ∙ ap₂ (λ (ks : List KnownChoice) (k : Known).
-          bind (y.test.value c) (λ z. bind (scalar z) (λ w.
-          bind (one_of (is_false w) (λ u. meaning.choices_value c ys m) (λ u. y.yes.value c)) (converted (kind_operand (choice_operand c.scope.env ks (operand_of c.scope.env k)))))))
-          (choices_known (more s t)) h.known
+      bind (y.test.value c) (λ z. bind (scalar z) (λ w.
+      bind (one_of (is_false w) (λ u. meaning.choices_value c ys m) (λ u. y.yes.value c)) (converted (kind_operand (choice_operand c.scope.env ks (operand_of c.scope.env k)))))))
+      (choices_known (more s t)) h.known

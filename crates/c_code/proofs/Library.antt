@@ -1,7 +1,6 @@
 -- The functions of the library that have code do what they mean.
-use Rattle.std.proofs.Common.{◌≡◌, ◌∙◌, refl, sym, ap, ap₂, ℕ, Bool, true, false, List, [], ◌∷◌, ◌++◌, map, codes, Option, Some, None}
+use Rattle.std.proofs.Common.{◌≡◌, refl, ap, ℕ, Bool, true, false, List, [], ◌∷◌, ◌++◌, map, codes, Option, Some, None}
 use Rattle.std.specs.Prelude.{if◌then◌else◌}
-use Rattle.std.specs.Option.{option_map}
 use Rattle.std.specs.Str.{bytes_eq}
 use Rattle.c_meaning.specs.declared.cell.Cell.{Cell}
 use Rattle.c_meaning.specs.State.{State}
@@ -11,7 +10,6 @@ use Rattle.c_meaning.specs.BlockRows.{Does, TypeArgument, slice_thing}
 use Rattle.c_meaning.specs.Rows.{LibraryRow, row, block_rows, object_rows, number_rows, number_types, signal_rows, loop_rows, does_in, does}
 use Rattle.c_code.specs.declared.program.LibraryFunction.{LibraryFunction}
 use Rattle.c_code.specs.declared.program.LibraryFunction.TheVariants as library
-use Rattle.c_code.specs.declared.program.Sliced.{Sliced}
 use Rattle.c_code.specs.declared.program.Sliced.TheVariants as sliced
 use Rattle.c_code.specs.Statements.{Known, functions, function_in, function_named, row_of, sliced_by, first_of}
 
@@ -33,7 +31,7 @@ names_in : (ks : List Known) (rest : List LibraryRow) (x : List ℕ) → Names (
 names_in [] rest x = unknown refl
 names_in (k ∷ ks) rest x =
     elim (bytes_eq k.name x) as (λ b. Names (if b then Some k.function else function_in ks x) (if b then Some (row_of k.function) else does_in (map row_by ks ++ rest) x))
-        [ true ↦ named k.function refl refl | false ↦ names_in ks rest x ]
+    [ true ↦ named k.function refl refl | false ↦ names_in ks rest x ]
 
 pub names_are : (x : List ℕ) → Names (function_named x) (does x)
 names_are x = names_in functions (object_rows ++ number_rows number_types ++ signal_rows ++ loop_rows) x

@@ -1,9 +1,8 @@
 -- The values and places that moves of code lead to, in a context.
-use Rattle.std.proofs.Common.{◌≡◌, ◌∙◌, refl, sym, ap, ℕ, suc, ◌==◌, true, false, ℤ, pos, ◌*ℤ◌, List, [], ◌∷◌, Option, Some, None, Ok, Err}
+use Rattle.std.proofs.Common.{◌≡◌, ◌∙◌, refl, ap, ℕ, suc, ◌==◌, true, false, ℤ, pos, ◌*ℤ◌, List, [], ◌∷◌, Option, Some, None, Ok, Err}
 use Rattle.std.specs.Prelude.{if◌then◌else◌}
 use Rattle.std.specs.Str.{bytes_eq}
 use Rattle.vg_base.specs.declared.event.UndefKind.TheVariants as undef
-use Rattle.c_tree.specs.declared.names.CType.{CType}
 use Rattle.c_tree.specs.declared.operators.Prefix.{Prefix}
 use Rattle.c_tree.specs.declared.operators.Prefix.TheVariants as prefix
 use Rattle.c_tree.specs.declared.kinds.Kind.{Kind}
@@ -15,22 +14,21 @@ use Rattle.c_meaning.specs.declared.cell.Cell.TheVariants.{Int, Ptr, Func}
 use Rattle.c_meaning.specs.State.{Place, Value, Scalar, Fixed, Standing, Routine}
 use Rattle.c_meaning.specs.Layout.{known}
 use Rattle.c_meaning.specs.Blocks.{Answer, bind}
-use Rattle.c_meaning.specs.Numbers.{number_of, scalar, converted, is_false, truth, read, pointed, moved, to}
+use Rattle.c_meaning.specs.Numbers.{number_of, scalar, converted, is_false, truth, pointed, moved, to}
 use Rattle.c_meaning.specs.Values as meaning
 use Rattle.c_meaning.specs.Values.{Context, on_number, pointed_value, read_place, variable_in, static_in, place_by, routine_in, literal_in, member_number}
 use Rattle.cell_heap.specs.States.{heap_of}
 use Rattle.c_code.specs.declared.code.Code.{Code}
 use Rattle.c_code.specs.declared.code.Sign.{Sign}
 use Rattle.c_code.specs.declared.code.Sign.TheVariants as sign
-use Rattle.c_code.specs.declared.code.Start.TheVariants as start
 use Rattle.c_code.specs.declared.code.Move.TheVariants as go
 use Rattle.c_code.specs.declared.code.Move.TheOpen.{Move-F, Start-F}
-use Rattle.c_code.specs.Looks.{Heap, read_in, moved_in, pointed_in}
-use Rattle.c_code.specs.Coded.{Reached, At, Of, Eval, moving, coded, of_value, at_place, value, place, value_by, prefix_of, followed, indexed}
+use Rattle.c_code.specs.Looks.{Heap, read_in, moved_in}
+use Rattle.c_code.specs.Coded.{Reached, At, Of, moving, coded, of_value, at_place, value, place, value_by, prefix_of, followed, indexed}
 use Rattle.c_code.specs.Resolved as code
 use Rattle.c_code.specs.Resolved.{Both, on, cell, cell_if, nothing, in_kind, static_start, variable_start, member}
-use Rattle.c_code.specs.Laws.{tables_of, bearings_of}
-use Rattle.c_code.proofs.Parts.{OpenMove, OpenStart, move_at, start_at, move_layer, start_layer, started, moved_on, moved_twice}
+use Rattle.c_code.specs.Laws.{bearings_of}
+use Rattle.c_code.proofs.Parts.{OpenMove, move_at, move_layer, started, moved_on, moved_twice}
 use Rattle.c_code.proofs.Seen.{read_seen, pointed_seen, moved_seen}
 
 -- 1. Answers
@@ -159,19 +157,19 @@ module _ (c : Context) where
   literal_is [] at = nothing_is
   literal_is (l ∷ ls) at =
       elim (l.start == at) as (λ b. let a : Answer Cell = if b then Ok (Ptr l.block 0) else literal_in ls at in IsValue (cell_if a) (meaning.as_value a))
-          [ true ↦ cell_is (Ptr l.block 0) | false ↦ literal_is ls at ]
+      [ true ↦ cell_is (Ptr l.block 0) | false ↦ literal_is ls at ]
 
   pub routine_is : (n : ℕ) (rs : List Routine) (x : List ℕ) → IsValue (cell_if (routine_in n rs x)) (meaning.as_value (routine_in n rs x))
   routine_is n [] x = nothing_is
   routine_is n (r ∷ rs) x =
       elim (bytes_eq r.name x) as (λ b. let a : Answer Cell = if b then Ok (Func n) else routine_in (suc n) rs x in IsValue (cell_if a) (meaning.as_value a))
-          [ true ↦ cell_is (Func n) | false ↦ routine_is (suc n) rs x ]
+      [ true ↦ cell_is (Func n) | false ↦ routine_is (suc n) rs x ]
 
   static_is : (vs : List Fixed) (x : List ℕ) → IsPlace (static_start (static_in vs x)) (static_in vs x)
   static_is [] x = nothing_is
   static_is (v ∷ vs) x =
       elim (bytes_eq v.name x) as (λ b. let a : Answer Place = if b then Ok (record { block = v.block; at = 0 }) else static_in vs x in IsPlace (static_start a) a)
-          [ true ↦ started (Start-F.Block v.block) heap c.frame | false ↦ static_is vs x ]
+      [ true ↦ started (Start-F.Block v.block) heap c.frame | false ↦ static_is vs x ]
 
   variable_at : (x : List ℕ) (o : Option ℕ) → IsPlace (variable_start (bearings_of c) x o) (place_by c x o)
   variable_at x (Some n) = started (Start-F.Local n) heap c.frame

@@ -1,5 +1,5 @@
 -- What is found in the heap of a run is what is found in the run, as functions.
-use Rattle.std.proofs.Common.{◌≡◌, ◌∙◌, refl, sym, ap, ℕ, zero, suc, ◌+◌, true, false, ℤ, pos, ◌+ℤ◌, List, map, length, take, drop, Option, Some, None, Ok, Err}
+use Rattle.std.proofs.Common.{◌≡◌, ◌∙◌, refl, ap, ℕ, zero, suc, ◌+◌, true, false, pos, ◌+ℤ◌, List, length, take, drop, Option, Some, None, Ok, Err}
 use Rattle.std.specs.Prelude.{slice_get, cond, nat_le, if◌then◌else◌}
 use Rattle.std.specs.Option.{option_map}
 use Rattle.std.proofs.lemmas.Option.{slice_get-map}
@@ -10,9 +10,9 @@ use Rattle.c_meaning.specs.declared.cell.Cell.{Cell}
 use Rattle.c_meaning.specs.declared.cell.Cell.TheVariants.{Ptr, Null, Unset}
 use Rattle.c_meaning.specs.State
 use Rattle.c_meaning.specs.State.{Block, Place, Value, Scalar, Struct}
-use Rattle.c_meaning.specs.Blocks.{Answer, bind, block_of, block_at, live_block, cell_of, get, get_cells}
+use Rattle.c_meaning.specs.Blocks.{Answer, bind, block_of, live_block, cell_of, get, get_cells}
 use Rattle.c_meaning.specs.Numbers.{converted, place_in, pointed, moved, stepped, read, to}
-use Rattle.cell_heap.specs.Heap.{joined, cells_of}
+use Rattle.cell_heap.specs.Heap.{joined}
 use Rattle.cell_heap.specs.States.{seen, heap_of}
 use Rattle.c_code.specs.Looks.{live, block_in, get_in, get_cells_in, read_in, pointed_in, moved_in, stepped_in}
 

@@ -1,12 +1,11 @@
 -- What stands at a frame's place by code, and what takes no step.
-use Rattle.std.proofs.Common.{◌≡◌, ◌∙◌, refl, sym, ap, ap₂, ℕ, zero, suc, ◌==◌, Bool, true, false, List, [], ◌∷◌, ◌++◌, map, length, Option, Some, None, Ok, Err}
+use Rattle.std.proofs.Common.{◌≡◌, ◌∙◌, refl, ap, ap₂, ℕ, zero, suc, ◌==◌, Bool, true, false, List, [], ◌∷◌, ◌++◌, map, length, Option, Some, None, Ok}
 use Rattle.std.specs.Prelude.{slice_get, if◌then◌else◌}
 use Rattle.std.specs.Option.{option_map}
 use Rattle.std.proofs.lemmas.Option.{slice_get-map}
 use Rattle.std.proofs.lemmas.List.{length-map}
 use Rattle.vg_base.specs.declared.event.CEnd.{CEnd}
 use Rattle.vg_base.specs.declared.event.UndefKind.TheVariants as undef
-use Rattle.c_tree.specs.declared.code.Expr.{Expr}
 use Rattle.c_tree.specs.declared.kinds.Kind.{Kind}
 use Rattle.c_tree.specs.Kinds.{is_void}
 use Rattle.c_tree.specs.Env.{Env}
@@ -17,15 +16,12 @@ use Rattle.c_meaning.specs.State.{State, Value, Frame, Item, Run, Enter, Ask, Sc
 use Rattle.c_meaning.specs.Blocks.{Answer, bind, on, undefined}
 use Rattle.c_meaning.specs.TypeRows.{push}
 use Rattle.c_meaning.specs.Values.{Program, meant}
-use Rattle.c_meaning.specs.Values as meaning
 use Rattle.c_meaning.specs.Steps as steps
 use Rattle.c_code.specs.declared.program.Statement.{Statement}
-use Rattle.c_code.specs.declared.program.Statement.TheVariants as statement
 use Rattle.c_code.specs.declared.program.Routine.{Routine}
 use Rattle.c_code.specs.Resolved.{Tables}
-use Rattle.c_code.specs.Statements.{bearings, statement_code, statements, taken, routine_code, routine_codes}
-use Rattle.c_code.specs.Machine as machine
-use Rattle.c_code.specs.Machine.{statements_of, statement_at, body_of, gives_nothing, is_passed, is_silent, pass_by, end_body, do_silent, first_is_silent, do_first, settled, call_cell, enter_routine, enter_body, enter_frame, argument_cells}
+use Rattle.c_code.specs.Statements.{bearings, statement_code, taken, routine_code, routine_codes}
+use Rattle.c_code.specs.Machine.{statements_of, statement_at, body_of, gives_nothing, is_passed, is_silent, pass_by, end_body, do_silent, first_is_silent, do_first, settled, call_cell, enter_routine, enter_frame, argument_cells}
 
 module _ (env : Env) (t : Tables) where
   -- the unit, and the code of its functions
@@ -119,7 +115,7 @@ module _ (env : Env) (t : Tables) where
   settled_is zero s = refl
   settled_is (suc n) s = λ i.
       elim (first_silent s.ended s.work i) as (λ b. State)
-          [ true ↦ (settled_is n (do_first made unit s s.work) ∙ ap (steps.settled unit n) (first_done s s.work)) i | false ↦ s ]
+      [ true ↦ (settled_is n (do_first made unit s s.work) ∙ ap (steps.settled unit n) (first_done s s.work)) i | false ↦ s ]
 
   -- 3. Calls of functions of the unit, and entries
 

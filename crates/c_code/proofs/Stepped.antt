@@ -3,16 +3,14 @@ use Rattle.std.proofs.Common.{◌≡◌, ◌∙◌, refl, sym, ap, subst, ℕ, z
 use Rattle.std.specs.Prelude.{slice_get, if◌then◌else◌}
 use Rattle.std.specs.Option.{option_map}
 use Rattle.c_tree.specs.declared.code.Expr.{Expr}
-use Rattle.c_tree.specs.declared.kinds.Kind.{Kind}
 use Rattle.c_tree.specs.Env.{Env}
 use Rattle.c_meaning.specs.State as state
 use Rattle.c_meaning.specs.State.{State, Frame, Item, Run, Enter, Ask}
 use Rattle.c_meaning.specs.Values.{Program, Part, meant}
 use Rattle.c_meaning.specs.Steps as steps
-use Rattle.c_code.specs.declared.program.Routine.{Routine}
 use Rattle.c_code.specs.Resolved.{Tables}
 use Rattle.c_code.specs.Statements.{act_has_code, all_have_code, body_has_code, have_code, routine_codes}
-use Rattle.c_code.specs.Machine.{statement_at, perform_if, do_item, do_next, step, settled}
+use Rattle.c_code.specs.Machine.{perform_if, do_item, do_next, step}
 use Rattle.c_code.specs.Laws.{StepsAreTheSame}
 use Rattle.c_code.proofs.Silent.{made, made_of, statement_found, silent_done, settled_is, cell_called, entered}
 use Rattle.c_code.proofs.Performed.{performed}
@@ -77,5 +75,5 @@ module _ (env : Env) (routines : List state.Routine) (has : have_code routines �
 pub steps_same : StepsAreTheSame
 steps_same p s m h =
     subst (λ (w : Expr → Part). let q : Program = record p { meant = w } in
-        step (routine_codes p.env (record { literals = s.literals; statics = s.statics; routines = p.routines })) q s ≡ steps.step q s) (sym m)
+    step (routine_codes p.env (record { literals = s.literals; statics = s.statics; routines = p.routines })) q s ≡ steps.step q s) (sym m)
     (stepped p.env p.routines h s)

@@ -1,5 +1,5 @@
 -- The code of a value comes to what the value means: an induction over values.
-use Rattle.std.proofs.Common.{◌≡◌, ◌∙◌, refl, sym, ap, ap₂, subst, ℕ, pos, List, [], ◌∷◌, map, Option, Some, None}
+use Rattle.std.proofs.Common.{◌≡◌, ◌∙◌, refl, sym, ap, ap₂, subst, ℕ, List, [], ◌∷◌, map, Option}
 use Rattle.c_tree.specs.declared.names.Span.{Span}
 use Rattle.c_tree.specs.declared.code.Expr.{Expr, roll-Expr}
 use Rattle.c_tree.specs.declared.code.Link.{Link, roll-Link}
@@ -7,22 +7,21 @@ use Rattle.c_tree.specs.declared.code.Choice.{Choice, roll-Choice}
 use Rattle.c_tree.specs.declared.code.Suffix.{Suffix, roll-Suffix}
 use Rattle.c_tree.specs.declared.code.Shape.{Shape, roll-Shape}
 use Rattle.c_tree.specs.declared.code.Shape.TheOpen.{Shape-F, Suffix-F, Choice-F, Expr-F, Link-F}
-use Rattle.c_tree.specs.declared.code.Shape.TheFolds.{fold-Shape, fold-Suffix, fold-Choice, fold-Expr, fold-Link, fold-roll-Shape, fold-roll-Suffix, fold-roll-Choice, fold-roll-Expr, fold-roll-Link, map-Shape, map-Suffix, map-Choice, map-Expr, map-Link, ind-Expr}
+use Rattle.c_tree.specs.declared.code.Shape.TheFolds.{fold-Shape, fold-Suffix, fold-Choice, fold-Link, fold-roll-Shape, fold-roll-Suffix, fold-roll-Choice, fold-roll-Expr, fold-roll-Link, map-Shape, map-Suffix, ind-Expr}
 use Rattle.c_tree.specs.Checks.{Checked, Known, KnownLink, KnownChoice, KnownSuffix, operand_of, check_shape, suffix_kind, variable_kind}
-use Rattle.c_tree.specs.Env.{found, cells_of}
+use Rattle.c_tree.specs.Env.{found}
 use Rattle.c_meaning.specs.State.{Value}
 use Rattle.c_meaning.specs.Blocks.{Answer, bind}
-use Rattle.c_meaning.specs.Numbers.{number}
 use Rattle.c_meaning.specs.Values as meaning
 use Rattle.c_meaning.specs.Values.{Context, Meant, mean_shape, mean_suffix, mean_choice, mean_expr, mean_link, meant}
 use Rattle.cell_heap.specs.States.{heap_of}
 use Rattle.c_tree.specs.declared.kinds.Kind.{Kind}
 use Rattle.c_code.specs.declared.code.Start.TheVariants as start
 use Rattle.c_code.specs.declared.code.Move.TheOpen.{Start-F}
-use Rattle.c_code.specs.Coded.{value_by, of_value, at_place, operated, coded}
+use Rattle.c_code.specs.Coded.{of_value, at_place, operated}
 use Rattle.c_code.specs.Resolved as code
 use Rattle.c_code.specs.Resolved.{Resolution, Part, PartLink, PartChoice, PartSuffix, resolve_shape, resolve_suffix, resolve_choice, resolve_expr, resolve_link, resolved}
-use Rattle.c_code.specs.Laws.{bearings_of, MeansTheSame, CodeMeansTheSame}
+use Rattle.c_code.specs.Laws.{bearings_of, CodeMeansTheSame}
 use Rattle.c_code.proofs.Parts.{operation_does, started}
 use Rattle.c_code.proofs.Moved.{IsValue, IsPlace, value_is, place_is, nothing_is, cell_is, literal_is, routine_is, variable_is, member_is, read_on}
 use Rattle.c_code.proofs.Levels.{Alike, AlikeSuffix, field, arrow, index, AlikeChoice, AlikeLink, AlikeLists, none, more, links_known, choices_known, suffixes_known, kind_known, prefixed_is, suffixes_is, operated_is, chosen_is}
@@ -117,7 +116,7 @@ level_meant = map-Shape Shape Suffix Choice Expr Link Meant meaning.PartSuffix m
 
 chain_is : (c : Context) (a : Part) (m : meaning.Part) (ls : List PartLink) (ms : List meaning.PartLink) → Alike a m → AlikeLists AlikeLink ls ms
     → IsValue c (code.code (start.Chain (a.value (bearings_of c)) (code.operations (bearings_of c) (operand_of c.scope.env a.known) ls)) [])
-        (meaning.chain_value c (operand_of c.scope.env m.known) (m.value c) ms)
+    (meaning.chain_value c (operand_of c.scope.env m.known) (m.value c) ms)
 chain_is c a m ls ms h t =
     let o = operand_of c.scope.env a.known in
     let os = code.operations (bearings_of c) o ls in
@@ -128,7 +127,7 @@ chain_is c a m ls ms h t =
 
 postfix_place : (c : Context) (e : Expr) (h : ForExpr e) (xs : List PartSuffix) (ys : List meaning.PartSuffix) → AlikeLists AlikeSuffix xs ys
     → IsPlace c (code.suffixes_place (bearings_of c) (code.kind_part (bearings_of c) (resolved e)) (code.both (bearings_of c) (resolved e)) xs)
-        (meaning.suffixes_place c (meaning.kind_part c (meant e)) (λ u. (meant e).value c) (λ u. (meant e).place c) ys)
+    (meaning.suffixes_place c (meaning.kind_part c (meant e)) (λ u. (meant e).value c) (λ u. (meant e).place c) ys)
 postfix_place c e h xs ys t =
     let b : meaning.Both = record { value = λ u. (meant e).value c; place = λ u. (meant e).place c } in
     let k = code.kind_part (bearings_of c) (resolved e) in
@@ -137,15 +136,15 @@ postfix_place c e h xs ys t =
 
 postfix_value : (c : Context) (e : Expr) (h : ForExpr e) (xs : List PartSuffix) (ys : List meaning.PartSuffix) → AlikeLists AlikeSuffix xs ys
     → IsValue c (code.read c.scope.env (suffix_kind c.scope.env (code.kind_part (bearings_of c) (resolved e)) (code.known_suffixes xs))
-            (code.suffixes_place (bearings_of c) (code.kind_part (bearings_of c) (resolved e)) (code.both (bearings_of c) (resolved e)) xs))
-        (bind (meaning.suffixes_place c (meaning.kind_part c (meant e)) (λ u. (meant e).value c) (λ u. (meant e).place c) ys)
-            (meaning.read_place c (suffix_kind c.scope.env (meaning.kind_part c (meant e)) (meaning.known_suffixes ys))))
+    (code.suffixes_place (bearings_of c) (code.kind_part (bearings_of c) (resolved e)) (code.both (bearings_of c) (resolved e)) xs))
+    (bind (meaning.suffixes_place c (meaning.kind_part c (meant e)) (λ u. (meant e).value c) (λ u. (meant e).place c) ys)
+    (meaning.read_place c (suffix_kind c.scope.env (meaning.kind_part c (meant e)) (meaning.known_suffixes ys))))
 postfix_value c e h xs ys t =
     let p = meaning.suffixes_place c (meaning.kind_part c (meant e)) (λ u. (meant e).value c) (λ u. (meant e).place c) ys in
     read_on c (suffix_kind c.scope.env (code.kind_part (bearings_of c) (resolved e)) (code.known_suffixes xs))
-        (code.suffixes_place (bearings_of c) (code.kind_part (bearings_of c) (resolved e)) (code.both (bearings_of c) (resolved e)) xs) p (postfix_place c e h xs ys t)
+    (code.suffixes_place (bearings_of c) (code.kind_part (bearings_of c) (resolved e)) (code.both (bearings_of c) (resolved e)) xs) p (postfix_place c e h xs ys t)
     ∙ ap₂ (λ (k : Option Kind) (x : List KnownSuffix). of_value (bind p (meaning.read_place c (suffix_kind c.scope.env k x))))
-        (kind_known c (resolved e) (meant e) h) (suffixes_known t)
+    (kind_known c (resolved e) (meant e) h) (suffixes_known t)
 
 level_is : (l : SureLevel) → AlikeShape (resolve_shape (level_resolved (bare_level l))) (mean_shape (level_meant (bare_level l)))
 level_is (Shape-F.Number n) = record { checked = refl; value = λ c at. cell_is c _; place = nothing_is }
@@ -195,10 +194,10 @@ level_is (Shape-F.Conditional cs e) =
 shape_step : (l : SureLevel) → ForShape (roll-Shape (bare_level l))
 shape_step l =
     subst (λ (r : Resolution). AlikeShape r (shape_meant (roll-Shape (bare_level l))))
-        (sym (fold-roll-Shape Resolution PartSuffix PartChoice Part PartLink resolve_shape resolve_suffix resolve_choice resolve_expr resolve_link (bare_level l)))
+    (sym (fold-roll-Shape Resolution PartSuffix PartChoice Part PartLink resolve_shape resolve_suffix resolve_choice resolve_expr resolve_link (bare_level l)))
     (subst (λ (m : Meant). AlikeShape (resolve_shape (level_resolved (bare_level l))) m)
-        (sym (fold-roll-Shape Meant meaning.PartSuffix meaning.PartChoice meaning.Part meaning.PartLink mean_shape mean_suffix mean_choice mean_expr mean_link (bare_level l)))
-        (level_is l))
+    (sym (fold-roll-Shape Meant meaning.PartSuffix meaning.PartChoice meaning.Part meaning.PartLink mean_shape mean_suffix mean_choice mean_expr mean_link (bare_level l)))
+    (level_is l))
 
 abbrev bare_suffix : Suffix-F SureShape SureSuffix SureChoice SureExpr SureLink → Suffix-F Shape Suffix Choice Expr Link
 bare_suffix = map-Suffix SureShape SureSuffix SureChoice SureExpr SureLink Shape Suffix Choice Expr Link (λ e. e.0) (λ e. e.0) (λ e. e.0) (λ e. e.0) (λ e. e.0)
@@ -217,28 +216,28 @@ suffix_is (Suffix-F.Index i s) = index (resolved i.0) (meant i.0) s i.1
 suffix_step : (l : Suffix-F SureShape SureSuffix SureChoice SureExpr SureLink) → ForSuffix (roll-Suffix (bare_suffix l))
 suffix_step l =
     subst (λ (r : PartSuffix). AlikeSuffix r (suffix_meant (roll-Suffix (bare_suffix l))))
-        (sym (fold-roll-Suffix Resolution PartSuffix PartChoice Part PartLink resolve_shape resolve_suffix resolve_choice resolve_expr resolve_link (bare_suffix l)))
+    (sym (fold-roll-Suffix Resolution PartSuffix PartChoice Part PartLink resolve_shape resolve_suffix resolve_choice resolve_expr resolve_link (bare_suffix l)))
     (subst (λ (m : meaning.PartSuffix). AlikeSuffix (resolve_suffix (suffix_layer (bare_suffix l))) m)
-        (sym (fold-roll-Suffix Meant meaning.PartSuffix meaning.PartChoice meaning.Part meaning.PartLink mean_shape mean_suffix mean_choice mean_expr mean_link (bare_suffix l)))
-        (suffix_is l))
+    (sym (fold-roll-Suffix Meant meaning.PartSuffix meaning.PartChoice meaning.Part meaning.PartLink mean_shape mean_suffix mean_choice mean_expr mean_link (bare_suffix l)))
+    (suffix_is l))
 
 choice_step : (l : Choice-F SureShape SureSuffix SureChoice SureExpr SureLink) → ForChoice (roll-Choice (record { test = l.test.0; yes = l.yes.0 }))
 choice_step l =
     let bare : Choice-F Shape Suffix Choice Expr Link = record { test = l.test.0; yes = l.yes.0 } in
     subst (λ (r : PartChoice). AlikeChoice r (choice_meant (roll-Choice bare)))
-        (sym (fold-roll-Choice Resolution PartSuffix PartChoice Part PartLink resolve_shape resolve_suffix resolve_choice resolve_expr resolve_link bare))
+    (sym (fold-roll-Choice Resolution PartSuffix PartChoice Part PartLink resolve_shape resolve_suffix resolve_choice resolve_expr resolve_link bare))
     (subst (λ (m : meaning.PartChoice). AlikeChoice (record { test = resolved l.test.0; yes = resolved l.yes.0 }) m)
-        (sym (fold-roll-Choice Meant meaning.PartSuffix meaning.PartChoice meaning.Part meaning.PartLink mean_shape mean_suffix mean_choice mean_expr mean_link bare))
-        (record { test = l.test.1; yes = l.yes.1 }))
+    (sym (fold-roll-Choice Meant meaning.PartSuffix meaning.PartChoice meaning.Part meaning.PartLink mean_shape mean_suffix mean_choice mean_expr mean_link bare))
+    (record { test = l.test.1; yes = l.yes.1 }))
 
 link_step : (l : Link-F SureShape SureSuffix SureChoice SureExpr SureLink) → ForLink (roll-Link (record { operator = l.operator; operand = l.operand.0 }))
 link_step l =
     let bare : Link-F Shape Suffix Choice Expr Link = record { operator = l.operator; operand = l.operand.0 } in
     subst (λ (r : PartLink). AlikeLink r (link_meant (roll-Link bare)))
-        (sym (fold-roll-Link Resolution PartSuffix PartChoice Part PartLink resolve_shape resolve_suffix resolve_choice resolve_expr resolve_link bare))
+    (sym (fold-roll-Link Resolution PartSuffix PartChoice Part PartLink resolve_shape resolve_suffix resolve_choice resolve_expr resolve_link bare))
     (subst (λ (m : meaning.PartLink). AlikeLink (record { operator = l.operator; operand = resolved l.operand.0 }) m)
-        (sym (fold-roll-Link Meant meaning.PartSuffix meaning.PartChoice meaning.Part meaning.PartLink mean_shape mean_suffix mean_choice mean_expr mean_link bare))
-        (record { operator = refl; operand = l.operand.1 }))
+    (sym (fold-roll-Link Meant meaning.PartSuffix meaning.PartChoice meaning.Part meaning.PartLink mean_shape mean_suffix mean_choice mean_expr mean_link bare))
+    (record { operator = refl; operand = l.operand.1 }))
 
 abbrev expr_resolved : Span → Resolution → Part
 expr_resolved s r = record { known = record { span = s; value = r.checked }; value = λ b. r.value b s.start; place = r.place }
@@ -250,14 +249,14 @@ expr_step : (l : Expr-F SureShape SureSuffix SureChoice SureExpr SureLink) → F
 expr_step l =
     let bare : Expr-F Shape Suffix Choice Expr Link = record { shape = l.shape.0; span = l.span } in
     subst (λ (r : Part). Alike r (meant (roll-Expr bare)))
-        (sym (fold-roll-Expr Resolution PartSuffix PartChoice Part PartLink resolve_shape resolve_suffix resolve_choice resolve_expr resolve_link bare))
+    (sym (fold-roll-Expr Resolution PartSuffix PartChoice Part PartLink resolve_shape resolve_suffix resolve_choice resolve_expr resolve_link bare))
     (subst (λ (m : meaning.Part). Alike (expr_resolved l.span (shape_resolved l.shape.0)) m)
-        (sym (fold-roll-Expr Meant meaning.PartSuffix meaning.PartChoice meaning.Part meaning.PartLink mean_shape mean_suffix mean_choice mean_expr mean_link bare))
-        (record {
-          known = ap (λ (z : Checked). record { span = l.span; value = z }) l.shape.1.checked;
-          value = λ c. l.shape.1.value c l.span.start;
-          place = l.shape.1.place;
-        }))
+    (sym (fold-roll-Expr Meant meaning.PartSuffix meaning.PartChoice meaning.Part meaning.PartLink mean_shape mean_suffix mean_choice mean_expr mean_link bare))
+    (record {
+      known = ap (λ (z : Checked). record { span = l.span; value = z }) l.shape.1.checked;
+      value = λ c. l.shape.1.value c l.span.start;
+      place = l.shape.1.place;
+    }))
 
 -- each value has the same kind, value and place by its code
 pub alike : (e : Expr) → Alike (resolved e) (meant e)

@@ -1,5 +1,5 @@
 -- What code comes to, over a heap and in the frame whose variables are a block of it.
-use Rattle.std.specs.Prelude.{ℕ, ◌&&◌, Bool, true, false, if◌then◌else◌, pos, neg_ℤ, ◌*ℤ◌, List, [], ◌∷◌, Ok, Err}
+use Rattle.std.specs.Prelude.{ℕ, ◌&&◌, true, false, if◌then◌else◌, pos, neg_ℤ, ◌*ℤ◌, List, [], ◌∷◌, Ok, Err}
 use Rattle.vg_base.specs.declared.event.UndefKind.TheVariants as undef
 use Rattle.c_tree.specs.declared.operators.BinaryOperator.{BinaryOperator}
 use Rattle.c_tree.specs.declared.operators.BinaryOperator.TheVariants as op
@@ -11,7 +11,7 @@ use Rattle.c_meaning.specs.declared.cell.Cell.{Cell}
 use Rattle.c_meaning.specs.State.{Place, Value, Scalar}
 use Rattle.c_meaning.specs.Blocks.{Answer, bind}
 use Rattle.c_meaning.specs.Numbers.{number_of, scalar, converted, is_false, truth, to, calculated, difference, same}
-use Rattle.c_meaning.specs.Values.{Later, on_number, one_of, shortened}
+use Rattle.c_meaning.specs.Values.{on_number, one_of, shortened}
 use Rattle.c_code.specs.declared.code.Code.{Code}
 use Rattle.c_code.specs.declared.code.Sign.{Sign}
 use Rattle.c_code.specs.declared.code.Sign.TheVariants as sign

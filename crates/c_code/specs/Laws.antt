@@ -1,10 +1,9 @@
 -- The laws that join code to what it is the code of.
-use Rattle.std.specs.Prelude.{◌≡◌, ℕ, true}
+use Rattle.std.specs.Prelude.{◌≡◌, true}
 use Rattle.c_tree.specs.declared.code.Expr.{Expr}
 use Rattle.c_meaning.specs.State
 use Rattle.c_meaning.specs.State.{Scope}
 use Rattle.c_meaning.specs.Values.{Context, Program, meant}
-use Rattle.c_meaning.specs.Code.{reading}
 use Rattle.c_meaning.specs.Steps as steps
 use Rattle.cell_heap.specs.States.{heap_of}
 use Rattle.c_code.specs.Coded.{value_of, place_of}

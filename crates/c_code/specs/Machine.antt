@@ -1,9 +1,8 @@
 -- A step of a unit by the code of its functions.
-use Rattle.std.specs.Prelude.{ℕ, zero, suc, ◌+◌, ◌-◌, ◌==◌, ◌&&◌, Bool, true, false, if◌then◌else◌, ℤ, pos, neg_ℤ, List, [], ◌∷◌, ◌++◌, length, Option, Some, None, Ok, Err, slice_get}
+use Rattle.std.specs.Prelude.{ℕ, zero, suc, ◌+◌, ◌==◌, Bool, true, false, if◌then◌else◌, ℤ, pos, neg_ℤ, List, [], ◌∷◌, ◌++◌, length, Option, Some, None, Ok, Err, slice_get}
 use Rattle.vg_base.specs.declared.event.CEnd.{CEnd}
 use Rattle.vg_base.specs.declared.event.UndefKind.TheVariants as undef
 use Rattle.c_tree.specs.Kinds.{is_struct}
-use Rattle.c_tree.specs.Env.{Env}
 use Rattle.c_meaning.specs.declared.cell.Cell.{Cell}
 use Rattle.c_meaning.specs.declared.cell.Cell.TheVariants.{Ptr, Func, Null, Unset}
 use Rattle.c_meaning.specs.State
@@ -17,7 +16,6 @@ use Rattle.c_meaning.specs.Steps.{store, onward, at_place, leave, same_number, i
 use Rattle.c_meaning.specs.Steps as steps
 use Rattle.cell_heap.specs.States.{heap_of}
 use Rattle.c_code.specs.declared.code.Code.{Code}
-use Rattle.c_code.specs.declared.program.TypeArgument.{TypeArgument}
 use Rattle.c_code.specs.declared.program.Callee.{Callee}
 use Rattle.c_code.specs.declared.program.Callee.TheVariants as target
 use Rattle.c_code.specs.declared.program.Call.{Call}

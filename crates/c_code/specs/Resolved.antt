@@ -1,6 +1,5 @@
 -- The code of values: names become places, kinds become what the moves need.
-use Rattle.std.specs.Prelude.{ℕ, Bool, true, false, if◌then◌else◌, pos, List, [], ◌∷◌, ◌++◌, Option, Some, None, Ok, Err}
-use Rattle.std.specs.Str.{bytes_eq}
+use Rattle.std.specs.Prelude.{ℕ, pos, List, [], ◌∷◌, ◌++◌, Option, Some, None, Ok, Err}
 use Rattle.c_tree.specs.declared.names.Name.{Name}
 use Rattle.c_tree.specs.declared.names.Span.{Span}
 use Rattle.c_tree.specs.declared.operators.BinaryOperator.{BinaryOperator}
@@ -23,7 +22,7 @@ use Rattle.c_tree.specs.Faults.{outcome_kind}
 use Rattle.c_tree.specs.Checks.{Checked, Known, KnownLink, KnownChoice, KnownSuffix, check_shape, number_kind, operand_of, prefix_kind, suffix_outcome, suffix_kind, joined, choice_operand, variable_kind}
 use Rattle.c_tree.specs.Checks as check
 use Rattle.c_meaning.specs.declared.cell.Cell.{Cell}
-use Rattle.c_meaning.specs.declared.cell.Cell.TheVariants.{Int, Ptr, Func}
+use Rattle.c_meaning.specs.declared.cell.Cell.TheVariants.{Int}
 use Rattle.c_meaning.specs.State.{Place, Scope, Routine, Fixed, Standing}
 use Rattle.c_meaning.specs.Layout.{known, kind, offset}
 use Rattle.c_meaning.specs.Blocks.{Answer}
@@ -34,7 +33,6 @@ use Rattle.c_code.specs.declared.code.Start.{Start}
 use Rattle.c_code.specs.declared.code.Start.TheVariants as start
 use Rattle.c_code.specs.declared.code.Move.{Move}
 use Rattle.c_code.specs.declared.code.Move.TheVariants as go
-use Rattle.c_code.specs.declared.code.Sign.{Sign}
 use Rattle.c_code.specs.declared.code.Sign.TheVariants as sign
 use Rattle.c_code.specs.declared.code.Operation.{Operation, roll-Operation}
 use Rattle.c_code.specs.declared.code.Alternative.{Alternative, roll-Alternative}

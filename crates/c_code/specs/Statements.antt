@@ -2,7 +2,6 @@
 use Rattle.std.specs.Prelude.{ℕ, suc, Bool, true, false, if◌then◌else◌, ℤ, pos, negsuc, List, [], ◌∷◌, map, codes, Option, Some, None}
 use Rattle.std.specs.Str.{bytes_eq}
 use Rattle.std.specs.Option.{is_some}
-use Rattle.c_tree.specs.declared.names.Name.{Name}
 use Rattle.c_tree.specs.declared.names.CType.{CType}
 use Rattle.c_tree.specs.declared.code.Expr.{Expr}
 use Rattle.c_tree.specs.declared.code.Call.{Call as CCall}
@@ -26,7 +25,6 @@ use Rattle.c_code.specs.declared.program.LibraryFunction.TheVariants as library
 use Rattle.c_code.specs.declared.program.Sliced.{Sliced}
 use Rattle.c_code.specs.declared.program.Sliced.TheVariants as sliced
 use Rattle.c_code.specs.declared.program.TypeArgument.{TypeArgument}
-use Rattle.c_code.specs.declared.program.Callee.{Callee}
 use Rattle.c_code.specs.declared.program.Callee.TheVariants as target
 use Rattle.c_code.specs.declared.program.Call.{Call}
 use Rattle.c_code.specs.declared.program.Taken.{Taken}
