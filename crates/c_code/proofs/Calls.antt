@@ -48,7 +48,8 @@ module _ (p : Program) (c : Context) where
   pub cell_found : (e : Expr) → coded.cell_of (value_code by e) (heap_of c.state) c.frame ≡ meaning.cell_at here e
   cell_found e = ap (λ (v : Answer Value). bind v scalar) (value_found e)
 
-  pub converted_found : (k : Kind) (e : Expr) → coded.value_of (in_kind k (value_code by e)) (heap_of c.state) c.frame ≡ bind (meaning.value_of here e) (converted k)
+  pub converted_found : (k : Kind) (e : Expr) → coded.value_of (in_kind k (value_code by e)) (heap_of c.state) c.frame
+      ≡ bind (meaning.value_of here e) (converted k)
   converted_found k e = value_is c (in_kind k (value_code by e)) (bind (meaning.value_of here e) (converted k))
       (convert_on c k (value_code by e) (meaning.value_of here e) ((alike e).value c))
 
@@ -67,7 +68,8 @@ module _ (p : Program) (c : Context) where
 
   -- 2. Arguments
 
-  pub arguments_found : (ks : List (Option Kind)) (es : List Expr) → machine.values_of (argument_codes by ks es) (heap_of c.state) c.frame ≡ steps.arguments here ks es
+  pub arguments_found : (ks : List (Option Kind)) (es : List Expr) → machine.values_of (argument_codes by ks es) (heap_of c.state) c.frame
+      ≡ steps.arguments here ks es
   arguments_found [] [] = refl
   arguments_found (k ∷ ks) [] = refl
   arguments_found [] (e ∷ es) = λ i. bind (value_found e i) (λ v. bind (arguments_found [] es i) (λ vs. Ok (v ∷ vs)))

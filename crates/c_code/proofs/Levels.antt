@@ -107,7 +107,8 @@ module _ (c : Context) where
   suffix_is k a m h (index i j s e) = index_on c (cells_of c.scope.env (target k)) a.value (i.value here) (m.value tt) (j.value c) h.value (e.value c)
 
   -- suffixes, the innermost first
-  pub suffixes_is : {xs : List PartSuffix} {ys : List meaning.PartSuffix} → AlikeLists AlikeSuffix xs ys → (k : Option Kind) (a : Both) (m : meaning.Both) → BothAre c a m
+  pub suffixes_is : {xs : List PartSuffix} {ys : List meaning.PartSuffix} → AlikeLists AlikeSuffix xs ys → (k : Option Kind) (a : Both) (m : meaning.Both)
+      → BothAre c a m
       → IsPlace c (code.suffixes_place here k a xs) (meaning.suffixes_place c k m.value m.place ys)
   suffixes_is none k a m h = h.place
   suffixes_is (more {x} {y} {xs} {ys} s t) k a m h =
@@ -116,7 +117,8 @@ module _ (c : Context) where
       let e : IsPlace c p q = suffix_is (known k) a m h s in
       let j = outcome_kind (suffix_outcome c.scope.env k (code.known_suffix x)) in
       subst (λ (z : KnownSuffix). let i = outcome_kind (suffix_outcome c.scope.env k z) in
-      IsPlace c (code.suffixes_place here j (record { value = code.read c.scope.env j p; place = p }) xs) (meaning.suffixes_place c i (λ u. bind q (read_place c i)) (λ u. q) ys)) (suffix_known s)
+      IsPlace c (code.suffixes_place here j (record { value = code.read c.scope.env j p; place = p }) xs)
+          (meaning.suffixes_place c i (λ u. bind q (read_place c i)) (λ u. q) ys)) (suffix_known s)
       (suffixes_is t j (record { value = code.read c.scope.env j p; place = p }) (record { value = λ u. bind q (read_place c j); place = λ u. q })
       (record { value = read_on c j p q e; place = e }))
 
@@ -124,7 +126,8 @@ module _ (c : Context) where
   abbrev operated_by : BinaryOperator → Kind → Kind → Kind → Eval → Operated
   operated_by o r j k e = record { operator = o; gives = r; left = j; right = k; step = cells_of c.scope.env (target j); operand = e }
 
-  pointer_is : (o p : BinaryOperator) (r j k : Kind) (e : Eval) (x y : Cell) → pointer_result heap (operated_by p r j k e) o x y ≡ meaning.pointer_result c o j k x y
+  pointer_is : (o p : BinaryOperator) (r j k : Kind) (e : Eval) (x y : Cell) → pointer_result heap (operated_by p r j k e) o x y
+      ≡ meaning.pointer_result c o j k x y
   pointer_is op.Add p r j k e x y =
       ap (λ (g : Cell → ℤ → Answer Cell). bind (number_of y) (λ n. g x (n *ℤ pos (cells_of c.scope.env (target j))))) (stepped_seen c.state)
   pointer_is op.Subtract p r j k e x y = λ i.
@@ -152,8 +155,10 @@ module _ (c : Context) where
       let rest = map operation_does (operations here r xs) in
       let made = operated_by x.operator (kind_operand r) (kind_operand a) (kind_operand b) (coded (x.operand.value here)) in
       ap (λ (o : Operated). operated heap c.frame (bind v (operate heap c.frame o o.operator)) rest)
-      (operation_is (record { operator = x.operator; gives = kind_operand r; left = kind_operand a; right = kind_operand b; step = cells_of c.scope.env (target (kind_operand a)); operand = x.operand.value here }))
-      ∙ (λ i. operated heap c.frame (bind v (λ u. operate_is x.operator (kind_operand r) (kind_operand a) (kind_operand b) (coded (x.operand.value here)) (y.operand.value c)
+      (operation_is (record { operator = x.operator; gives = kind_operand r; left = kind_operand a; right = kind_operand b;
+          step = cells_of c.scope.env (target (kind_operand a)); operand = x.operand.value here }))
+      ∙ (λ i. operated heap c.frame (bind v (λ u. operate_is x.operator (kind_operand r) (kind_operand a) (kind_operand b) (coded (x.operand.value here))
+          (y.operand.value c)
       (value_is c (x.operand.value here) (y.operand.value c) (h.operand.value c)) u i)) rest)
       ∙ operated_is t r (bind v (meaning.link_value c x.operator (kind_operand r) (kind_operand a) (kind_operand b) (λ u. y.operand.value c)))
       ∙ ap₂ (λ (o : BinaryOperator) (k : Known).
@@ -168,10 +173,12 @@ module _ (c : Context) where
   chosen_is (more {x} {y} {xs} {ys} s t) e m h =
       let gives = kind_operand (choice_operand c.scope.env (code.known_choices (x ∷ xs)) (operand_of c.scope.env e.known)) in
       let rest = map alternative_does (alternatives here xs e) in
-      ap (λ (a : Chosen). chosen heap c.frame (a ∷ rest) (coded (e.value here))) (alternative_is (record { test = x.test.value here; yes = x.yes.value here; gives = gives }))
+      ap (λ (a : Chosen). chosen heap c.frame (a ∷ rest) (coded (e.value here)))
+          (alternative_is (record { test = x.test.value here; yes = x.yes.value here; gives = gives }))
       ∙ (λ i. bind (value_is c (x.test.value here) (y.test.value c) (s.test.value c) i) (λ z. bind (scalar z) (λ w.
       bind (one_of (is_false w) (λ u. chosen_is t e m h i) (λ u. value_is c (x.yes.value here) (y.yes.value c) (s.yes.value c) i)) (converted gives))))
       ∙ ap₂ (λ (ks : List KnownChoice) (k : Known).
       bind (y.test.value c) (λ z. bind (scalar z) (λ w.
-      bind (one_of (is_false w) (λ u. meaning.choices_value c ys m) (λ u. y.yes.value c)) (converted (kind_operand (choice_operand c.scope.env ks (operand_of c.scope.env k)))))))
+      bind (one_of (is_false w) (λ u. meaning.choices_value c ys m) (λ u. y.yes.value c))
+          (converted (kind_operand (choice_operand c.scope.env ks (operand_of c.scope.env k)))))))
       (choices_known (more s t)) h.known

@@ -30,7 +30,8 @@ pub data Names (o : Option LibraryFunction) (d : Option Does) : Type 0 where
 names_in : (ks : List Known) (rest : List LibraryRow) (x : List ℕ) → Names (function_in ks x) (does_in (map row_by ks ++ rest) x)
 names_in [] rest x = unknown refl
 names_in (k ∷ ks) rest x =
-    elim (bytes_eq k.name x) as (λ b. Names (if b then Some k.function else function_in ks x) (if b then Some (row_of k.function) else does_in (map row_by ks ++ rest) x))
+    elim (bytes_eq k.name x) as (λ b. Names (if b then Some k.function else function_in ks x)
+        (if b then Some (row_of k.function) else does_in (map row_by ks ++ rest) x))
     [ true ↦ named k.function refl refl | false ↦ names_in ks rest x ]
 
 pub names_are : (x : List ℕ) → Names (function_named x) (does x)
@@ -50,5 +51,6 @@ slice_by s n false true = refl
 slice_by s n false false = refl
 
 pub does_by_sort : (f : LibraryFunction) (s : State) (t : TypeArgument) (cs : List Cell) → row_of f s (by_sort t) cs ≡ row_of f s t cs
-does_by_sort library.SliceNew s t cs = ap (λ (z : State). give z (next_pointer s)) (slice_by s t.cells (bytes_eq t.first (codes "_ref_count_")) (bytes_eq t.first (codes "_state_")))
+does_by_sort library.SliceNew s t cs = ap (λ (z : State). give z (next_pointer s))
+    (slice_by s t.cells (bytes_eq t.first (codes "_ref_count_")) (bytes_eq t.first (codes "_state_")))
 does_by_sort f s t cs = refl

@@ -92,7 +92,8 @@ module _ (c : Context) where
   from_place x p l e = moved_on x l heap c.frame
       ∙ ap (λ (r : Answer Reached). bind r (moving (move_layer l) heap c.frame)) e ∙ place_bound p (moving (move_layer l) heap c.frame)
 
-  pub not_on : (x : Code) (v : Answer Value) → IsValue x v → IsValue (on x (go.Not ∷ [])) (bind v (λ x. bind (scalar x) (λ y. Ok (Scalar (truth (is_false y))))))
+  pub not_on : (x : Code) (v : Answer Value) → IsValue x v
+      → IsValue (on x (go.Not ∷ [])) (bind v (λ x. bind (scalar x) (λ y. Ok (Scalar (truth (is_false y))))))
   not_on x v e = from_value x v Move-F.Not e ∙ value_after v (λ x. bind (scalar x) (λ y. Ok (Scalar (truth (is_false y)))))
 
   pub sign_on : (g : Sign) (k : Kind) (x : Code) (v : Answer Value) → IsValue x v → IsValue (on x (go.Sign g k ∷ [])) (bind v (on_number (prefix_of g) k))
@@ -126,7 +127,8 @@ module _ (c : Context) where
   arrow_on n x v e =
       moved_twice x Move-F.Follow (Move-F.Field n) heap c.frame
       ∙ ap (λ (r : Answer Reached). bind (bind r (moving Move-F.Follow heap c.frame)) (moving (Move-F.Field n) heap c.frame)) e
-      ∙ ap (λ (r : Answer Reached). bind r (moving (Move-F.Field n) heap c.frame)) (value_bound v (moving Move-F.Follow heap c.frame) ∙ place_after v (followed heap))
+      ∙ ap (λ (r : Answer Reached). bind r (moving (Move-F.Field n) heap c.frame))
+          (value_bound v (moving Move-F.Follow heap c.frame) ∙ place_after v (followed heap))
       ∙ place_bound (bind v (followed heap)) (moving (Move-F.Field n) heap c.frame)
       ∙ place_after (bind v (followed heap)) (λ q. moved_in heap q (pos n))
       ∙ ap (λ (g : Cell → Answer Place). at_place (bind (bind v (followed_by g)) (λ q. moved_in heap q (pos n)))) (pointed_seen c.state)
@@ -168,7 +170,8 @@ module _ (c : Context) where
   static_is : (vs : List Fixed) (x : List ℕ) → IsPlace (static_start (static_in vs x)) (static_in vs x)
   static_is [] x = nothing_is
   static_is (v ∷ vs) x =
-      elim (bytes_eq v.name x) as (λ b. let a : Answer Place = if b then Ok (record { block = v.block; at = 0 }) else static_in vs x in IsPlace (static_start a) a)
+      elim (bytes_eq v.name x) as (λ b. let a : Answer Place =
+          if b then Ok (record { block = v.block; at = 0 }) else static_in vs x in IsPlace (static_start a) a)
       [ true ↦ started (Start-F.Block v.block) heap c.frame | false ↦ static_is vs x ]
 
   variable_at : (x : List ℕ) (o : Option ℕ) → IsPlace (variable_start (bearings_of c) x o) (place_by c x o)

@@ -107,7 +107,8 @@ alternative_is a = fold-roll-Alternative Moving Eval Chosen Eval Operated moving
 -- 5. Code
 
 code_does : (s : Start) (ms : List Move) (h : Heap) (f : ℕ) → coded (code s ms) h f ≡ all_moves (map move_does ms) h f (start_does s h f)
-code_does s ms h f = ap (λ (e : Eval). e h f) (fold-roll-Code Moving Eval Chosen Eval Operated moving starting choosing coding operating (record { start = s; moves = ms }))
+code_does s ms h f = ap (λ (e : Eval). e h f) (fold-roll-Code Moving Eval Chosen Eval Operated moving starting choosing coding operating
+    (record { start = s; moves = ms }))
 
 code_out : (c : Code) (h : Heap) (f : ℕ) → coded c h f ≡ all_moves (map move_does c.moves) h f (start_does c.start h f)
 code_out c h f = ap (λ (e : Eval). e h f) (fold_out-Code Moving Eval Chosen Eval Operated moving starting choosing coding operating c)

@@ -41,11 +41,13 @@ module _ (env : Env) (t : Tables) where
   routine_found n = slice_get-map (routine_code env t) t.routines n
 
   statements_found : (o : Option state.Routine)
-      → statements_of (body_of (option_map (routine_code env t) o)) ≡ map (made_of (steps.result_in o) (steps.code_in (steps.body_of o))) (steps.code_in (steps.body_of o))
+      → statements_of (body_of (option_map (routine_code env t) o))
+          ≡ map (made_of (steps.result_in o) (steps.code_in (steps.body_of o))) (steps.code_in (steps.body_of o))
   statements_found None = refl
   statements_found (Some r) = by_body r.body
     where
-      by_body : (b : Option state.Body) → statements_of (body_of (option_map (routine_code env t) (Some (record { name = r.name; result = r.result; body = b }))))
+      by_body : (b : Option state.Body) → statements_of (body_of (option_map (routine_code env t)
+          (Some (record { name = r.name; result = r.result; body = b }))))
           ≡ map (made_of r.result (steps.code_in b)) (steps.code_in b)
       by_body None = refl
       by_body (Some b) = refl
@@ -119,11 +121,13 @@ module _ (env : Env) (t : Tables) where
 
   -- 3. Calls of functions of the unit, and entries
 
-  body_entered : (s : State) (n : ℕ) (vs : List Value) (o : Option state.Routine) → enter_routine s n (option_map (routine_code env t) o) vs ≡ steps.enter_routine s n o vs
+  body_entered : (s : State) (n : ℕ) (vs : List Value) (o : Option state.Routine) → enter_routine s n (option_map (routine_code env t) o) vs
+      ≡ steps.enter_routine s n o vs
   body_entered s n vs None = refl
   body_entered s n vs (Some r) = by_body r.body
     where
-      by_body : (b : Option state.Body) → enter_routine s n (option_map (routine_code env t) (Some (record { name = r.name; result = r.result; body = b }))) vs ≡ steps.enter_body s n b vs
+      by_body : (b : Option state.Body) → enter_routine s n (option_map (routine_code env t)
+          (Some (record { name = r.name; result = r.result; body = b }))) vs ≡ steps.enter_body s n b vs
       by_body None = refl
       by_body (Some b) = ap (λ (k : ℕ). if k == length vs then push (Enter n vs ∷ []) s else undefined s undef.Func) (length-map b.parameters (taken env))
 
@@ -137,15 +141,19 @@ module _ (env : Env) (t : Tables) where
   arguments_are : (ks : List Kind) (vs : List Value) → argument_cells (map (taken env) ks) vs ≡ steps.argument_cells env ks vs
   arguments_are [] vs = refl
   arguments_are (k ∷ ks) [] = refl
-  arguments_are (k ∷ ks) (v ∷ vs) = ap (λ (r : Answer (List Cell)). bind (steps.fitting env k v) (λ w. bind r (λ cs. Ok (steps.cells_in w ++ cs)))) (arguments_are ks vs)
+  arguments_are (k ∷ ks) (v ∷ vs) = ap (λ (r : Answer (List Cell)). bind (steps.fitting env k v) (λ w. bind r (λ cs. Ok (steps.cells_in w ++ cs))))
+      (arguments_are ks vs)
 
-  frame_entered : (s : State) (n : ℕ) (vs : List Value) (o : Option state.Routine) → enter_frame s n vs (body_of (option_map (routine_code env t) o)) ≡ steps.enter_frame unit s n vs (steps.body_of o)
+  frame_entered : (s : State) (n : ℕ) (vs : List Value) (o : Option state.Routine) → enter_frame s n vs (body_of (option_map (routine_code env t) o))
+      ≡ steps.enter_frame unit s n vs (steps.body_of o)
   frame_entered s n vs None = refl
   frame_entered s n vs (Some r) = by_body r.body
     where
-      by_body : (b : Option state.Body) → enter_frame s n vs (body_of (option_map (routine_code env t) (Some (record { name = r.name; result = r.result; body = b })))) ≡ steps.enter_frame unit s n vs b
+      by_body : (b : Option state.Body) → enter_frame s n vs (body_of
+          (option_map (routine_code env t) (Some (record { name = r.name; result = r.result; body = b })))) ≡ steps.enter_frame unit s n vs b
       by_body None = refl
       by_body (Some b) = ap (λ (r : Answer (List Cell)). on s r (steps.enter_with s n b.cells)) (arguments_are b.parameters vs)
 
-  pub entered : (s : State) (n : ℕ) (vs : List Value) → enter_frame s n vs (body_of (slice_get made n)) ≡ steps.enter_frame unit s n vs (steps.body_of (slice_get t.routines n))
+  pub entered : (s : State) (n : ℕ) (vs : List Value) → enter_frame s n vs (body_of (slice_get made n))
+      ≡ steps.enter_frame unit s n vs (steps.body_of (slice_get t.routines n))
   entered s n vs = ap (λ (o : Option Routine). enter_frame s n vs (body_of o)) (routine_found n) ∙ frame_entered s n vs (slice_get t.routines n)

@@ -57,7 +57,8 @@ module _ (env : Env) (routines : List state.Routine) (has : have_code routines �
   run_by s f (Some x) h = performed env routines s f x.scope (at f).result (at f).code x.act h
 
   item_done : (s : State) (i : Item) → do_item (made env (tables s)) unit s i ≡ steps.do_item unit s i
-  item_done s (Run f) = ap (perform_if (made env (tables s)) s f) (statement_found env (tables s) f) ∙ run_by s f (at f).statement (routine_has routines f.routine f.at has)
+  item_done s (Run f) = ap (perform_if (made env (tables s)) s f) (statement_found env (tables s) f)
+      ∙ run_by s f (at f).statement (routine_has routines f.routine f.at has)
   item_done s (Enter n vs) = entered env (tables s) s n vs
   item_done s (Ask f cs) = cell_called env (tables s) s (steps.scalars cs) f
   item_done s i = silent_done env (tables s) s i

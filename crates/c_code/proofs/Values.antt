@@ -121,7 +121,8 @@ chain_is c a m ls ms h t =
     let o = operand_of c.scope.env a.known in
     let os = code.operations (bearings_of c) o ls in
     started (Start-F.Chain (a.value (bearings_of c)) os) (heap_of c.state) c.frame
-    ∙ ap (λ (v : Answer Value). of_value (operated (heap_of c.state) c.frame v (map operation_does os))) (value_is c (a.value (bearings_of c)) (m.value c) (h.value c))
+    ∙ ap (λ (v : Answer Value). of_value (operated (heap_of c.state) c.frame v (map operation_does os)))
+        (value_is c (a.value (bearings_of c)) (m.value c) (h.value c))
     ∙ ap of_value (operated_is c t o (m.value c))
     ∙ ap (λ (k : Known). of_value (meaning.chain_value c (operand_of c.scope.env k) (m.value c) ms)) h.known
 
@@ -142,7 +143,8 @@ postfix_value : (c : Context) (e : Expr) (h : ForExpr e) (xs : List PartSuffix) 
 postfix_value c e h xs ys t =
     let p = meaning.suffixes_place c (meaning.kind_part c (meant e)) (λ u. (meant e).value c) (λ u. (meant e).place c) ys in
     read_on c (suffix_kind c.scope.env (code.kind_part (bearings_of c) (resolved e)) (code.known_suffixes xs))
-    (code.suffixes_place (bearings_of c) (code.kind_part (bearings_of c) (resolved e)) (code.both (bearings_of c) (resolved e)) xs) p (postfix_place c e h xs ys t)
+    (code.suffixes_place (bearings_of c) (code.kind_part (bearings_of c) (resolved e)) (code.both (bearings_of c) (resolved e)) xs) p
+        (postfix_place c e h xs ys t)
     ∙ ap₂ (λ (k : Option Kind) (x : List KnownSuffix). of_value (bind p (meaning.read_place c (suffix_kind c.scope.env k x))))
     (kind_known c (resolved e) (meant e) h) (suffixes_known t)
 
@@ -154,7 +156,8 @@ level_is (Shape-F.Constant x) = record { checked = refl; value = λ c at. cell_i
 level_is (Shape-F.Variable x) =
     record {
       checked = refl;
-      value = λ c at. read_on c (variable_kind (found c.scope.env.scopes x.text)) (code.variable (bearings_of c) x.text) (meaning.variable_place c x.text) (variable_is c x.text);
+      value = λ c at. read_on c (variable_kind (found c.scope.env.scopes x.text)) (code.variable (bearings_of c) x.text) (meaning.variable_place c x.text)
+          (variable_is c x.text);
       place = λ c. variable_is c x.text;
     }
 level_is (Shape-F.Function x) = record { checked = refl; value = λ c at. routine_is c 0 c.routines x.text; place = nothing_is }
@@ -184,7 +187,8 @@ level_is (Shape-F.Chain a ls) =
 level_is (Shape-F.Conditional cs e) =
     record {
       checked = ap₂ (λ (x : List KnownChoice) (k : Known). check_shape (Shape-F.Conditional x k)) (choices_known (sure_choices cs)) e.1.known;
-      value = λ c at. started (Start-F.Choice (code.alternatives (bearings_of c) _ (resolved e.0)) ((resolved e.0).value (bearings_of c))) (heap_of c.state) c.frame
+      value = λ c at. started (Start-F.Choice (code.alternatives (bearings_of c) _ (resolved e.0)) ((resolved e.0).value (bearings_of c)))
+          (heap_of c.state) c.frame
           ∙ ap of_value (chosen_is c (sure_choices cs) (resolved e.0) (meant e.0) e.1);
       place = nothing_is;
     }
@@ -196,7 +200,8 @@ shape_step l =
     subst (λ (r : Resolution). AlikeShape r (shape_meant (roll-Shape (bare_level l))))
     (sym (fold-roll-Shape Resolution PartSuffix PartChoice Part PartLink resolve_shape resolve_suffix resolve_choice resolve_expr resolve_link (bare_level l)))
     (subst (λ (m : Meant). AlikeShape (resolve_shape (level_resolved (bare_level l))) m)
-    (sym (fold-roll-Shape Meant meaning.PartSuffix meaning.PartChoice meaning.Part meaning.PartLink mean_shape mean_suffix mean_choice mean_expr mean_link (bare_level l)))
+    (sym (fold-roll-Shape Meant meaning.PartSuffix meaning.PartChoice meaning.Part meaning.PartLink mean_shape mean_suffix mean_choice mean_expr mean_link
+        (bare_level l)))
     (level_is l))
 
 abbrev bare_suffix : Suffix-F SureShape SureSuffix SureChoice SureExpr SureLink → Suffix-F Shape Suffix Choice Expr Link
@@ -208,7 +213,8 @@ suffix_layer = map-Suffix Shape Suffix Choice Expr Link Resolution PartSuffix Pa
 abbrev suffix_meaning : Suffix-F Shape Suffix Choice Expr Link → Suffix-F Meant meaning.PartSuffix meaning.PartChoice meaning.Part meaning.PartLink
 suffix_meaning = map-Suffix Shape Suffix Choice Expr Link Meant meaning.PartSuffix meaning.PartChoice meaning.Part meaning.PartLink shape_meant suffix_meant choice_meant meant link_meant
 
-suffix_is : (l : Suffix-F SureShape SureSuffix SureChoice SureExpr SureLink) → AlikeSuffix (resolve_suffix (suffix_layer (bare_suffix l))) (mean_suffix (suffix_meaning (bare_suffix l)))
+suffix_is : (l : Suffix-F SureShape SureSuffix SureChoice SureExpr SureLink)
+    → AlikeSuffix (resolve_suffix (suffix_layer (bare_suffix l))) (mean_suffix (suffix_meaning (bare_suffix l)))
 suffix_is (Suffix-F.Field x) = field x
 suffix_is (Suffix-F.Arrow x) = arrow x
 suffix_is (Suffix-F.Index i s) = index (resolved i.0) (meant i.0) s i.1
@@ -216,9 +222,11 @@ suffix_is (Suffix-F.Index i s) = index (resolved i.0) (meant i.0) s i.1
 suffix_step : (l : Suffix-F SureShape SureSuffix SureChoice SureExpr SureLink) → ForSuffix (roll-Suffix (bare_suffix l))
 suffix_step l =
     subst (λ (r : PartSuffix). AlikeSuffix r (suffix_meant (roll-Suffix (bare_suffix l))))
-    (sym (fold-roll-Suffix Resolution PartSuffix PartChoice Part PartLink resolve_shape resolve_suffix resolve_choice resolve_expr resolve_link (bare_suffix l)))
+    (sym (fold-roll-Suffix Resolution PartSuffix PartChoice Part PartLink resolve_shape resolve_suffix resolve_choice resolve_expr resolve_link
+        (bare_suffix l)))
     (subst (λ (m : meaning.PartSuffix). AlikeSuffix (resolve_suffix (suffix_layer (bare_suffix l))) m)
-    (sym (fold-roll-Suffix Meant meaning.PartSuffix meaning.PartChoice meaning.Part meaning.PartLink mean_shape mean_suffix mean_choice mean_expr mean_link (bare_suffix l)))
+    (sym (fold-roll-Suffix Meant meaning.PartSuffix meaning.PartChoice meaning.Part meaning.PartLink mean_shape mean_suffix mean_choice mean_expr mean_link
+        (bare_suffix l)))
     (suffix_is l))
 
 choice_step : (l : Choice-F SureShape SureSuffix SureChoice SureExpr SureLink) → ForChoice (roll-Choice (record { test = l.test.0; yes = l.yes.0 }))
