@@ -118,7 +118,7 @@ module _ (c : Context) where
       let j = outcome_kind (suffix_outcome c.scope.env k (code.known_suffix x)) in
       subst (λ (z : KnownSuffix). let i = outcome_kind (suffix_outcome c.scope.env k z) in
       IsPlace c (code.suffixes_place here j (record { value = code.read c.scope.env j p; place = p }) xs)
-          (meaning.suffixes_place c i (λ u. bind q (read_place c i)) (λ u. q) ys)) (suffix_known s)
+      (meaning.suffixes_place c i (λ u. bind q (read_place c i)) (λ u. q) ys)) (suffix_known s)
       (suffixes_is t j (record { value = code.read c.scope.env j p; place = p }) (record { value = λ u. bind q (read_place c j); place = λ u. q })
       (record { value = read_on c j p q e; place = e }))
 
@@ -155,10 +155,16 @@ module _ (c : Context) where
       let rest = map operation_does (operations here r xs) in
       let made = operated_by x.operator (kind_operand r) (kind_operand a) (kind_operand b) (coded (x.operand.value here)) in
       ap (λ (o : Operated). operated heap c.frame (bind v (operate heap c.frame o o.operator)) rest)
-      (operation_is (record { operator = x.operator; gives = kind_operand r; left = kind_operand a; right = kind_operand b;
-          step = cells_of c.scope.env (target (kind_operand a)); operand = x.operand.value here }))
+      (operation_is (record {
+        operator = x.operator;
+        gives = kind_operand r;
+        left = kind_operand a;
+        right = kind_operand b;
+        step = cells_of c.scope.env (target (kind_operand a));
+        operand = x.operand.value here;
+      }))
       ∙ (λ i. operated heap c.frame (bind v (λ u. operate_is x.operator (kind_operand r) (kind_operand a) (kind_operand b) (coded (x.operand.value here))
-          (y.operand.value c)
+      (y.operand.value c)
       (value_is c (x.operand.value here) (y.operand.value c) (h.operand.value c)) u i)) rest)
       ∙ operated_is t r (bind v (meaning.link_value c x.operator (kind_operand r) (kind_operand a) (kind_operand b) (λ u. y.operand.value c)))
       ∙ ap₂ (λ (o : BinaryOperator) (k : Known).
@@ -174,11 +180,11 @@ module _ (c : Context) where
       let gives = kind_operand (choice_operand c.scope.env (code.known_choices (x ∷ xs)) (operand_of c.scope.env e.known)) in
       let rest = map alternative_does (alternatives here xs e) in
       ap (λ (a : Chosen). chosen heap c.frame (a ∷ rest) (coded (e.value here)))
-          (alternative_is (record { test = x.test.value here; yes = x.yes.value here; gives = gives }))
+      (alternative_is (record { test = x.test.value here; yes = x.yes.value here; gives = gives }))
       ∙ (λ i. bind (value_is c (x.test.value here) (y.test.value c) (s.test.value c) i) (λ z. bind (scalar z) (λ w.
       bind (one_of (is_false w) (λ u. chosen_is t e m h i) (λ u. value_is c (x.yes.value here) (y.yes.value c) (s.yes.value c) i)) (converted gives))))
       ∙ ap₂ (λ (ks : List KnownChoice) (k : Known).
       bind (y.test.value c) (λ z. bind (scalar z) (λ w.
       bind (one_of (is_false w) (λ u. meaning.choices_value c ys m) (λ u. y.yes.value c))
-          (converted (kind_operand (choice_operand c.scope.env ks (operand_of c.scope.env k)))))))
+      (converted (kind_operand (choice_operand c.scope.env ks (operand_of c.scope.env k)))))))
       (choices_known (more s t)) h.known

@@ -31,7 +31,7 @@ names_in : (ks : List Known) (rest : List LibraryRow) (x : List ℕ) → Names (
 names_in [] rest x = unknown refl
 names_in (k ∷ ks) rest x =
     elim (bytes_eq k.name x) as (λ b. Names (if b then Some k.function else function_in ks x)
-        (if b then Some (row_of k.function) else does_in (map row_by ks ++ rest) x))
+    (if b then Some (row_of k.function) else does_in (map row_by ks ++ rest) x))
     [ true ↦ named k.function refl refl | false ↦ names_in ks rest x ]
 
 pub names_are : (x : List ℕ) → Names (function_named x) (does x)

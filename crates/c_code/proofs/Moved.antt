@@ -128,7 +128,7 @@ module _ (c : Context) where
       moved_twice x Move-F.Follow (Move-F.Field n) heap c.frame
       ∙ ap (λ (r : Answer Reached). bind (bind r (moving Move-F.Follow heap c.frame)) (moving (Move-F.Field n) heap c.frame)) e
       ∙ ap (λ (r : Answer Reached). bind r (moving (Move-F.Field n) heap c.frame))
-          (value_bound v (moving Move-F.Follow heap c.frame) ∙ place_after v (followed heap))
+      (value_bound v (moving Move-F.Follow heap c.frame) ∙ place_after v (followed heap))
       ∙ place_bound (bind v (followed heap)) (moving (Move-F.Field n) heap c.frame)
       ∙ place_after (bind v (followed heap)) (λ q. moved_in heap q (pos n))
       ∙ ap (λ (g : Cell → Answer Place). at_place (bind (bind v (followed_by g)) (λ q. moved_in heap q (pos n)))) (pointed_seen c.state)
@@ -171,7 +171,7 @@ module _ (c : Context) where
   static_is [] x = nothing_is
   static_is (v ∷ vs) x =
       elim (bytes_eq v.name x) as (λ b. let a : Answer Place =
-          if b then Ok (record { block = v.block; at = 0 }) else static_in vs x in IsPlace (static_start a) a)
+      if b then Ok (record { block = v.block; at = 0 }) else static_in vs x in IsPlace (static_start a) a)
       [ true ↦ started (Start-F.Block v.block) heap c.frame | false ↦ static_is vs x ]
 
   variable_at : (x : List ℕ) (o : Option ℕ) → IsPlace (variable_start (bearings_of c) x o) (place_by c x o)

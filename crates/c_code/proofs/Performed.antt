@@ -44,9 +44,9 @@ cases_found : (k : Kind) (whole : List state.Statement) (z : ℤ) (cs : List CCa
 cases_found k whole z [] l = refl
 cases_found k whole z (c ∷ cs) l =
     ap (λ (w : ℤ). if same_number w z then label_place 0 c.label.text whole else case_target z (case_codes k whole cs) (label_place 0 l whole))
-        (number_back (wrap k (signed_value c.number)))
+    (number_back (wrap k (signed_value c.number)))
     ∙ elim (same_number (wrap k (signed_value c.number)) z) as (λ b.
-        (if b then label_place 0 c.label.text whole else case_target z (case_codes k whole cs) (label_place 0 l whole))
+    (if b then label_place 0 c.label.text whole else case_target z (case_codes k whole cs) (label_place 0 l whole))
     ≡ label_place 0 (if b then c.label.text else case_label k z cs l) whole)
     [ true ↦ refl | false ↦ cases_found k whole z cs l ]
 

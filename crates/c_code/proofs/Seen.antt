@@ -19,7 +19,7 @@ use Rattle.c_code.specs.Looks.{live, block_in, get_in, get_cells_in, read_in, po
 live_seen : (b : Block) → live (seen b) ≡ bind (live_block (Some b)) (λ c. Ok c.cells)
 live_seen b =
     elim b.is_live as (λ l. live (cond l (Some b.cells) None)
-        ≡ bind (cond l (let r : Answer Block = Ok b in r) (Err undef.Freed)) (λ c. Ok c.cells)) [ true ↦ refl | false ↦ refl ]
+    ≡ bind (cond l (let r : Answer Block = Ok b in r) (Err undef.Freed)) (λ c. Ok c.cells)) [ true ↦ refl | false ↦ refl ]
 
 found_seen : (o : Option Block) → live (joined (option_map seen o)) ≡ bind (live_block o) (λ b. Ok b.cells)
 found_seen None = refl

@@ -42,7 +42,7 @@ module _ (env : Env) (t : Tables) where
 
   statements_found : (o : Option state.Routine)
       → statements_of (body_of (option_map (routine_code env t) o))
-          ≡ map (made_of (steps.result_in o) (steps.code_in (steps.body_of o))) (steps.code_in (steps.body_of o))
+      ≡ map (made_of (steps.result_in o) (steps.code_in (steps.body_of o))) (steps.code_in (steps.body_of o))
   statements_found None = refl
   statements_found (Some r) = by_body r.body
     where

@@ -122,7 +122,7 @@ chain_is c a m ls ms h t =
     let os = code.operations (bearings_of c) o ls in
     started (Start-F.Chain (a.value (bearings_of c)) os) (heap_of c.state) c.frame
     ∙ ap (λ (v : Answer Value). of_value (operated (heap_of c.state) c.frame v (map operation_does os)))
-        (value_is c (a.value (bearings_of c)) (m.value c) (h.value c))
+    (value_is c (a.value (bearings_of c)) (m.value c) (h.value c))
     ∙ ap of_value (operated_is c t o (m.value c))
     ∙ ap (λ (k : Known). of_value (meaning.chain_value c (operand_of c.scope.env k) (m.value c) ms)) h.known
 
@@ -144,7 +144,7 @@ postfix_value c e h xs ys t =
     let p = meaning.suffixes_place c (meaning.kind_part c (meant e)) (λ u. (meant e).value c) (λ u. (meant e).place c) ys in
     read_on c (suffix_kind c.scope.env (code.kind_part (bearings_of c) (resolved e)) (code.known_suffixes xs))
     (code.suffixes_place (bearings_of c) (code.kind_part (bearings_of c) (resolved e)) (code.both (bearings_of c) (resolved e)) xs) p
-        (postfix_place c e h xs ys t)
+    (postfix_place c e h xs ys t)
     ∙ ap₂ (λ (k : Option Kind) (x : List KnownSuffix). of_value (bind p (meaning.read_place c (suffix_kind c.scope.env k x))))
     (kind_known c (resolved e) (meant e) h) (suffixes_known t)
 
@@ -201,7 +201,7 @@ shape_step l =
     (sym (fold-roll-Shape Resolution PartSuffix PartChoice Part PartLink resolve_shape resolve_suffix resolve_choice resolve_expr resolve_link (bare_level l)))
     (subst (λ (m : Meant). AlikeShape (resolve_shape (level_resolved (bare_level l))) m)
     (sym (fold-roll-Shape Meant meaning.PartSuffix meaning.PartChoice meaning.Part meaning.PartLink mean_shape mean_suffix mean_choice mean_expr mean_link
-        (bare_level l)))
+    (bare_level l)))
     (level_is l))
 
 abbrev bare_suffix : Suffix-F SureShape SureSuffix SureChoice SureExpr SureLink → Suffix-F Shape Suffix Choice Expr Link
@@ -223,10 +223,10 @@ suffix_step : (l : Suffix-F SureShape SureSuffix SureChoice SureExpr SureLink) �
 suffix_step l =
     subst (λ (r : PartSuffix). AlikeSuffix r (suffix_meant (roll-Suffix (bare_suffix l))))
     (sym (fold-roll-Suffix Resolution PartSuffix PartChoice Part PartLink resolve_shape resolve_suffix resolve_choice resolve_expr resolve_link
-        (bare_suffix l)))
+    (bare_suffix l)))
     (subst (λ (m : meaning.PartSuffix). AlikeSuffix (resolve_suffix (suffix_layer (bare_suffix l))) m)
     (sym (fold-roll-Suffix Meant meaning.PartSuffix meaning.PartChoice meaning.Part meaning.PartLink mean_shape mean_suffix mean_choice mean_expr mean_link
-        (bare_suffix l)))
+    (bare_suffix l)))
     (suffix_is l))
 
 choice_step : (l : Choice-F SureShape SureSuffix SureChoice SureExpr SureLink) → ForChoice (roll-Choice (record { test = l.test.0; yes = l.yes.0 }))
