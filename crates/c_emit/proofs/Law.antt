@@ -19,7 +19,7 @@ use Rattle.c_meaning.specs.Code.{Slot, reading, program_by, body_of, literals_of
 use Rattle.c_meaning.specs.Blocks.{next_block}
 use Rattle.c_meaning.specs.Runs.{nothing, with_literals, with_types, with_name, with_main, meaning, CRun}
 use Rattle.c_emit.specs.Program.{Program as Texts, AreTexts}
-use Rattle.c_emit.specs.Apart.{Rise, StandApart}
+use Rattle.c_places.specs.Apart.{Rise, StandApart}
 use Rattle.c_emit.specs.Emission.{unit_of}
 use Rattle.c_emit.specs.Laws.{EmittedUnitsRun}
 use Rattle.c_emit.specs.VMeaning.{v_meaning, v_opening, VRun}

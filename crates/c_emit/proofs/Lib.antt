@@ -6,3 +6,7 @@ mod Trees
 mod Bodies
 mod Units
 mod Law
+mod Marks
+mod Reading
+mod Sound
+mod Whole

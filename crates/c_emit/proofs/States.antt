@@ -12,7 +12,7 @@ use Rattle.c_meaning.specs.Blocks.{Answer, block_at, plain, make, next_block, pu
 use Rattle.c_meaning.specs.Texts.{text_cells}
 use Rattle.c_meaning.specs.Values.{literal_in}
 use Rattle.c_meaning.specs.Runs.{nothing, with_literals, with_types, with_name}
-use Rattle.c_emit.specs.Apart.{Rise}
+use Rattle.c_places.specs.Apart.{Rise}
 
 -- 1. Blocks that are no things
 

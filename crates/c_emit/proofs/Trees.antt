@@ -63,6 +63,12 @@ bare_seen e =
     ap shape_of (fold_out-Expr Shape Suffix Choice Expr Link bare_shape bare_suffix roll-Choice place_free roll-Link e)
     ∙ fold_out-Shape Shape Suffix Choice Expr Link bare_shape bare_suffix roll-Choice place_free roll-Link (shape_of e)
 
+-- a value without its place
+pub value_bare : (s : Shape) (o p : Span) → bare_expr (expr s o) ≡ bare_expr (expr s p)
+value_bare s o p =
+    fold_out-Expr Shape Suffix Choice Expr Link bare_shape bare_suffix roll-Choice place_free roll-Link (expr s o)
+    ∙ sym (fold_out-Expr Shape Suffix Choice Expr Link bare_shape bare_suffix roll-Choice place_free roll-Link (expr s p))
+
 -- the text, or the number, that one level is
 text_in : {A B C D E : Type 0} → Shape-F A B C D E → Option (List ℕ)
 text_in (Shape-F.Text bytes) = Some bytes

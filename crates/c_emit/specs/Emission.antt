@@ -14,6 +14,7 @@ use Rattle.c_tree.specs.declared.code.Callee.TheVariants as callee
 use Rattle.c_tree.specs.declared.code.Stmt.{Stmt}
 use Rattle.c_tree.specs.declared.code.Stmt.TheVariants as stmt
 use Rattle.c_tree.specs.declared.code.Block.{Block}
+use Rattle.c_tree.specs.declared.unit.Function.{Function as Definition}
 use Rattle.c_tree.specs.declared.unit.Include.TheVariants as include
 use Rattle.c_tree.specs.declared.unit.Item.TheVariants as item
 use Rattle.c_tree.specs.declared.unit.Parameter.{Parameter}
@@ -71,11 +72,18 @@ return_zero = stmt.Return nowhere (Some (value (shape.Number (record { value = 0
 abbrev pub print_stmt : List ℕ → Stmt
 print_stmt text = stmt.Call (print_call text)
 
+-- the statements of `main`
+abbrev pub statements : Program → List Stmt
+statements program = map print_stmt program ++ return_zero ∷ []
+
 abbrev pub main_body : Program → Block
-main_body program = block [] (map print_stmt program ++ return_zero ∷ []) nowhere
+main_body program = block [] (statements program) nowhere
+
+abbrev pub main_function : Program → Definition
+main_function program = record { signature = main_signature; body = main_body program }
 
 -- 3. The unit
 
 -- THE UNIT of a program, without places
 abbrev pub unit_of : Program → CUnit
-unit_of program = record { items = item.Include include.Glib ∷ item.Function (record { signature = main_signature; body = main_body program }) ∷ [] }
+unit_of program = record { items = item.Include include.Glib ∷ item.Function (main_function program) ∷ [] }

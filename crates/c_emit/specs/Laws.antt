@@ -4,7 +4,7 @@ use Rattle.vg_base.specs.Headline.{Headline}
 use Rattle.c_tree.specs.declared.unit.Unit.{Unit as CUnit}
 use Rattle.c_tree.specs.Bare.{SameUnit}
 use Rattle.c_meaning.specs.Runs.{CRun}
-use Rattle.c_emit.specs.Apart.{StandApart}
+use Rattle.c_places.specs.Apart.{StandApart}
 use Rattle.c_emit.specs.Program.{Program, AreTexts}
 use Rattle.c_emit.specs.Emission.{unit_of}
 use Rattle.c_emit.specs.VMeaning.{VRun}

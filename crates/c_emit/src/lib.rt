@@ -2,5 +2,10 @@
 #![tactic(auto)]
 
 mod laws;
+mod program;
+#[cfg(test)]
+mod tests;
+mod tree;
 
 pub use laws::emitted_units_run;
+pub use program::emit;
