@@ -25,8 +25,10 @@ texts_of_stmt = fold-Stmt (List Literal) (List Literal) (stmt_texts texts_of) te
 code_level : (s : Stmt) (l : Stmt-F Stmt Block) → out-Stmt s ≡ l → code_of_stmt s ≡ stmt_code (map-Stmt Stmt Block Coded Coded code_of_stmt code_of l)
 code_level s l h = fold_out-Stmt Coded Coded stmt_code block_code s ∙ ap (λ x. stmt_code (map-Stmt Stmt Block Coded Coded code_of_stmt code_of x)) h
 
-texts_level : (s : Stmt) (l : Stmt-F Stmt Block) → out-Stmt s ≡ l → texts_of_stmt s ≡ stmt_texts texts_of (map-Stmt Stmt Block (List Literal) (List Literal) texts_of_stmt (block_texts texts_of) l)
-texts_level s l h = fold_out-Stmt (List Literal) (List Literal) (stmt_texts texts_of) texts_in s ∙ ap (λ x. stmt_texts texts_of (map-Stmt Stmt Block (List Literal) (List Literal) texts_of_stmt (block_texts texts_of) x)) h
+texts_level : (s : Stmt) (l : Stmt-F Stmt Block) → out-Stmt s ≡ l
+    → texts_of_stmt s ≡ stmt_texts texts_of (map-Stmt Stmt Block (List Literal) (List Literal) texts_of_stmt (block_texts texts_of) l)
+texts_level s l h = fold_out-Stmt (List Literal) (List Literal) (stmt_texts texts_of) texts_in s
+    ∙ ap (λ x. stmt_texts texts_of (map-Stmt Stmt Block (List Literal) (List Literal) texts_of_stmt (block_texts texts_of) x)) h
 
 -- statements that print these texts and return 0
 record AreCoded (texts : Texts) (ss : List Stmt) : Type 0 where
@@ -39,27 +41,34 @@ last_coded s r =
     record {
       literals = [];
       stand = ap (λ (x : List Literal). x ++ []) (texts_level s (Stmt-F.Return r.span (Some r.zero)) r.is_return ∙ r.texts);
-      code = λ slots sc. subst (λ (x : Coded). Prints sc [] [] (all_code (x ∷ []) slots sc)) (sym (code_level s (Stmt-F.Return r.span (Some r.zero)) r.is_return)) (returns r.zero r.is_zero);
+      code = λ slots sc. subst (λ (x : Coded). Prints sc [] [] (all_code (x ∷ []) slots sc))
+          (sym (code_level s (Stmt-F.Return r.span (Some r.zero)) r.is_return)) (returns r.zero r.is_zero);
     }
 
 more_coded : (text : List ℕ) (texts : Texts) (s : Stmt) (ss : List Stmt) → PrintsOne text s → AreCoded texts ss → AreCoded (text ∷ texts) (s ∷ ss)
 more_coded text texts s ss p r =
     record {
       literals = format_at p.start text ∷ r.literals;
-      stand = ap (λ (x : List Literal). x ++ link_texts (map texts_of_stmt ss)) (texts_level s (Stmt-F.Call p.call) p.is_call ∙ p.texts) ∙ ap (λ (x : List Literal). format_at p.start text ∷ x) r.stand;
-      code = λ slots sc. subst (λ (x : Coded). Prints sc (text ∷ texts) (format_at p.start text ∷ r.literals) (all_code (x ∷ map code_of_stmt ss) slots sc)) (sym (code_level s (Stmt-F.Call p.call) p.is_call))
+      stand = ap (λ (x : List Literal). x ++ link_texts (map texts_of_stmt ss)) (texts_level s (Stmt-F.Call p.call) p.is_call ∙ p.texts)
+          ∙ ap (λ (x : List Literal). format_at p.start text ∷ x) r.stand;
+      code = λ slots sc. subst
+          (λ (x : Coded). Prints sc (text ∷ texts) (format_at p.start text ∷ r.literals) (all_code (x ∷ map code_of_stmt ss) slots sc))
+          (sym (code_level s (Stmt-F.Call p.call) p.is_call))
           (prints text p.start p.call p.is_print (r.code slots sc));
     }
 
 coded : (texts : Texts) (ss : List Stmt) → map bare_of_stmt ss ≡ map bare_of_stmt (map print_stmt texts ++ return_zero ∷ []) → AreCoded texts ss
 coded [] [] h = absurd (empty_not (bare_of_stmt return_zero) [] h)
 coded [] (s ∷ []) h = last_coded s (return_is s (head_same (bare_of_stmt s) (bare_of_stmt return_zero) [] [] h))
-coded [] (s ∷ t ∷ ss) h = absurd (more_not (bare_of_stmt t) (map bare_of_stmt ss) (tail_same (bare_of_stmt s) (bare_of_stmt return_zero) (bare_of_stmt t ∷ map bare_of_stmt ss) [] h))
+coded [] (s ∷ t ∷ ss) h =
+    absurd (more_not (bare_of_stmt t) (map bare_of_stmt ss) (tail_same (bare_of_stmt s) (bare_of_stmt return_zero) (bare_of_stmt t ∷ map bare_of_stmt ss) [] h))
 coded (text ∷ texts) [] h = absurd (empty_not (bare_of_stmt (print_stmt text)) (map bare_of_stmt (map print_stmt texts ++ return_zero ∷ [])) h)
 coded (text ∷ texts) (s ∷ ss) h =
     more_coded text texts s ss
-    (print_is s text (head_same (bare_of_stmt s) (bare_of_stmt (print_stmt text)) (map bare_of_stmt ss) (map bare_of_stmt (map print_stmt texts ++ return_zero ∷ [])) h))
-    (coded texts ss (tail_same (bare_of_stmt s) (bare_of_stmt (print_stmt text)) (map bare_of_stmt ss) (map bare_of_stmt (map print_stmt texts ++ return_zero ∷ [])) h))
+    (print_is s text (head_same (bare_of_stmt s) (bare_of_stmt (print_stmt text)) (map bare_of_stmt ss)
+    (map bare_of_stmt (map print_stmt texts ++ return_zero ∷ [])) h))
+    (coded texts ss (tail_same (bare_of_stmt s) (bare_of_stmt (print_stmt text)) (map bare_of_stmt ss)
+    (map bare_of_stmt (map print_stmt texts ++ return_zero ∷ [])) h))
 
 -- 2. Blocks
 
@@ -90,5 +99,6 @@ body_is texts b h =
     record {
       literals = r.literals;
       stand = fold_out-Block (List Literal) (List Literal) (stmt_texts texts_of) texts_in b ∙ r.stand;
-      code = λ slots sc. subst (λ (x : Coded). Prints (scope_in slots sc (out-Block b).locals) texts r.literals (x slots sc)) (sym (fold_out-Block Coded Coded stmt_code block_code b)) (r.code slots (scope_in slots sc (out-Block b).locals));
+      code = λ slots sc. subst (λ (x : Coded). Prints (scope_in slots sc (out-Block b).locals) texts r.literals (x slots sc))
+          (sym (fold_out-Block Coded Coded stmt_code block_code b)) (r.code slots (scope_in slots sc (out-Block b).locals));
     }

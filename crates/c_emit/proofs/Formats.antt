@@ -49,7 +49,8 @@ format_pieces : (text : List ℕ) → pieces Copying (format_of text) ≡ Some (
 format_pieces [] = refl
 format_pieces (b ∷ bs) = go (b == 37) refl (format_pieces bs)
   where
-    go : (t : Bool) → (b == 37) ≡ t → pieces Copying (format_of bs) ≡ Some (bytes_of bs) → pieces Copying (cond t (37 ∷ 37 ∷ []) (b ∷ []) ++ format_of bs) ≡ Some (Byte b ∷ bytes_of bs)
+    go : (t : Bool) → (b == 37) ≡ t → pieces Copying (format_of bs) ≡ Some (bytes_of bs)
+        → pieces Copying (cond t (37 ∷ 37 ∷ []) (b ∷ []) ++ format_of bs) ≡ Some (Byte b ∷ bytes_of bs)
     go true e rest = rw rest (ap (λ x. Some (Byte x ∷ bytes_of bs)) (sym (eqb-true b 37 e)))
     go false e rest = rw (e, rest) refl
 

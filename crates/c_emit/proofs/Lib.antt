@@ -6,6 +6,7 @@ mod Trees
 mod Bodies
 mod Units
 mod Law
+mod Quiet
 mod Marks
 mod Reading
 mod Sound

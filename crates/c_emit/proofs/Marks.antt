@@ -74,7 +74,8 @@ text_out : (bytes : List ℕ) → print_shape Clear (layer (out-Shape (shape.Tex
 unfolding out-Shape denote.Hole.Carrier.out
 text_out bytes = refl
 
-zero_out : print_shape Clear (layer (out-Shape (shape.Number (record { value = 0; kind = Gint })))) ≡ print_shape Clear (Shape-F.Number (record { value = 0; kind = Gint }))
+zero_out : print_shape Clear (layer (out-Shape (shape.Number (record { value = 0; kind = Gint })))) ≡ print_shape Clear
+    (Shape-F.Number (record { value = 0; kind = Gint }))
 unfolding out-Shape denote.Hole.Carrier.out
 zero_out = refl
 
@@ -87,9 +88,12 @@ zero_marks = ap (placed Clear Anywhere) (value_level (shape.Number (record { val
 call_written : (text : List ℕ) (ms : Marks) → Line 4 ∷ stmt_marks Clear (print_stmt text) 4 ++ ms ≡ call_line (format_of text) ms
 call_written text ms =
     ap (λ (m : Indented). Line 4 ∷ m 4 ++ ms) (stmt_written Clear (Stmt-F.Call (print_call text)))
-    ∙ ap (λ (v : Marks). Line 4 ∷ ((Name (codes "g_print") ∷ Space ∷ ASign sign.OpenParen ∷ (v ++ []) ++ ASign sign.CloseParen ∷ []) ++ ASign sign.Semicolon ∷ []) ++ ms) (text_marks (format_of text))
+    ∙ ap (λ (v : Marks). Line 4 ∷
+    ((Name (codes "g_print") ∷ Space ∷ ASign sign.OpenParen ∷ (v ++ []) ++ ASign sign.CloseParen ∷ []) ++ ASign sign.Semicolon ∷ []) ++ ms)
+    (text_marks (format_of text))
 
-return_written : (ms : Marks) → Line 4 ∷ stmt_marks Clear return_zero 4 ++ ms ≡ Line 4 ∷ AKeyword keyword.Return ∷ Space ∷ Number 0 Gint ∷ ASign sign.Semicolon ∷ ms
+return_written : (ms : Marks)
+    → Line 4 ∷ stmt_marks Clear return_zero 4 ++ ms ≡ Line 4 ∷ AKeyword keyword.Return ∷ Space ∷ Number 0 Gint ∷ ASign sign.Semicolon ∷ ms
 return_written ms =
     ap (λ (m : Indented). Line 4 ∷ m 4 ++ ms) (stmt_written Clear (Stmt-F.Return nowhere (Some (value (shape.Number (record { value = 0; kind = Gint }))))))
     ∙ ap (λ (v : Marks). Line 4 ∷ ((AKeyword keyword.Return ∷ Space ∷ v) ++ ASign sign.Semicolon ∷ []) ++ ms) zero_marks
@@ -111,7 +115,8 @@ pub unit_written : (texts : Texts) → unit_marks Clear (unit_of texts) ≡ head
 unit_written texts =
     ap (λ (m : Marks). behind_head (m ++ Line 0 ∷ [])) (append-nil (block_marks Clear (main_body texts) 0))
     ∙ ap (λ (m : Indented). behind_head (m 0 ++ Line 0 ∷ [])) (block_written Clear [] (map print_stmt texts ++ return_zero ∷ []) nowhere)
-    ∙ ap head_before (append_assoc (lines 4 (map (stmt_marks Clear) (map print_stmt texts ++ return_zero ∷ []))) (close_marks 0) (Line 0 ∷ []) ∙ body_written texts)
+    ∙ ap head_before (append_assoc (lines 4 (map (stmt_marks Clear) (map print_stmt texts ++ return_zero ∷ []))) (close_marks 0) (Line 0 ∷ [])
+    ∙ body_written texts)
 
 -- 3. They can be written
 
@@ -147,8 +152,13 @@ argv_word = (record { some = omega arith; letter = refl; all = refl }, refl)
 head_writable : (ms : Marks) → AreWritable ms → AreWritable (head_before ms)
 head_writable ms h =
     let opened : AreWritable (Line 0 ∷ ASign sign.OpenBrace ∷ ms) = (tt, (tt, h)) in
-    let second : AreWritable (AKeyword keyword.Char ∷ Space ∷ ASign sign.Star ∷ ASign sign.Star ∷ Name (codes "argv") ∷ ASign sign.CloseParen ∷ Line 0 ∷ ASign sign.OpenBrace ∷ ms) = (tt, (tt, (tt, (tt, (argv_word, (tt, opened)))))) in
-    let first : AreWritable (AKeyword keyword.Int ∷ Space ∷ Name (codes "argc") ∷ ASign sign.Comma ∷ Space ∷ AKeyword keyword.Char ∷ Space ∷ ASign sign.Star ∷ ASign sign.Star ∷ Name (codes "argv") ∷ ASign sign.CloseParen ∷ Line 0 ∷ ASign sign.OpenBrace ∷ ms) =
+    let second : AreWritable
+    (AKeyword keyword.Char ∷ Space ∷ ASign sign.Star ∷ ASign sign.Star ∷ Name
+    (codes "argv") ∷ ASign sign.CloseParen ∷ Line 0 ∷ ASign sign.OpenBrace ∷ ms) = (tt, (tt, (tt, (tt, (argv_word, (tt, opened)))))) in
+    let first : AreWritable
+    (AKeyword keyword.Int ∷ Space ∷ Name
+    (codes "argc") ∷ ASign sign.Comma ∷ Space ∷ AKeyword keyword.Char ∷ Space ∷ ASign sign.Star ∷ ASign sign.Star ∷ Name
+    (codes "argv") ∷ ASign sign.CloseParen ∷ Line 0 ∷ ASign sign.OpenBrace ∷ ms) =
     (tt, (tt, (argc_word, (tt, (tt, second))))) in
     (tt, (include_word, (tt, (tt, (glib_word, (tt, (h_word, (tt, (tt, (tt, (tt, (tt, (main_word, (tt, (tt, first)))))))))))))))
 

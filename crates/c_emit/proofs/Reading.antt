@@ -39,7 +39,8 @@ use Rattle.c_emit.proofs.Trees.{bare_of_stmt, value_bare}
 abbrev Single : Names → Token → Expr → Type 0
 Single ns x a = v.Reads ns false Primary (x ∷ []) a
 
-at_level : {ns : Names} {l m : _} {x : Token} {a : Expr} → v.tighter l ≡ Some m → v.Reads ns false (v.Operand m) (x ∷ []) a → v.Reads ns false (v.Operand l) (x ∷ []) a
+at_level : {ns : Names} {l m : _} {x : Token} {a : Expr} → v.tighter l ≡ Some m → v.Reads ns false (v.Operand m) (x ∷ []) a
+    → v.Reads ns false (v.Operand l) (x ∷ []) a
 at_level {x} e r = operand e (chain {u = x ∷ []} {v = []} r no_link)
 
 single : {ns : Names} {x : Token} {a : Expr} → Single ns x a → v.Reads ns false Value (x ∷ []) a
@@ -73,7 +74,8 @@ read_zero z = expr (shape.Number (record { value = 0; kind = Gint })) (at z)
 -- a statement that was read of the program, with places
 pub data IsRead : Texts → List Stmt → Type 0 where
   last : (r z : Token) → IsRead [] (stmt.Return (at r) (Some (read_zero z)) ∷ [])
-  more : (n x c : Token) (text : List ℕ) {texts : Texts} {ss : List Stmt} → n.bytes ≡ codes "g_print" → x.bytes ≡ format_of text → IsRead texts ss → IsRead (text ∷ texts) (stmt.Call (read_call n x c) ∷ ss)
+  more : (n x c : Token) (text : List ℕ) {texts : Texts} {ss : List Stmt} → n.bytes ≡ codes "g_print" → x.bytes ≡ format_of text → IsRead texts ss
+      → IsRead (text ∷ texts) (stmt.Call (read_call n x c) ∷ ss)
 
 return_same : (r z : Token) → bare_of_stmt (stmt.Return (at r) (Some (read_zero z))) ≡ bare_of_stmt return_zero
 return_same r z =
@@ -81,11 +83,20 @@ return_same r z =
     ∙ ap (λ e. stmt.Return nowhere (Some e)) (value_bare (shape.Number (record { value = 0; kind = Gint })) (at z) nowhere)
     ∙ sym (stmt_bare (Stmt-F.Return nowhere (Some (read_zero (record z { start = 0; end = 0 })))))
 
-call_same : (n x c : Token) (text : List ℕ) → n.bytes ≡ codes "g_print" → x.bytes ≡ format_of text → bare_of_stmt (stmt.Call (read_call n x c)) ≡ bare_of_stmt (print_stmt text)
+call_same : (n x c : Token) (text : List ℕ) → n.bytes ≡ codes "g_print" → x.bytes ≡ format_of text
+    → bare_of_stmt (stmt.Call (read_call n x c)) ≡ bare_of_stmt (print_stmt text)
 call_same n x c text e f =
     stmt_bare (Stmt-F.Call (read_call n x c))
-    ∙ ap (λ (g : List ℕ). stmt.Call (record { callee = callee.Row (record { text = g; span = nowhere }); type_argument = None; arguments = bare_expr (expr (shape.Text x.bytes) (at x)) ∷ []; span = nowhere })) e
-    ∙ ap (λ (g : Expr). stmt.Call (record { callee = callee.Row (record { text = codes "g_print"; span = nowhere }); type_argument = None; arguments = g ∷ []; span = nowhere }))
+    ∙ ap (λ (g : List ℕ). stmt.Call
+    (record {
+      callee = callee.Row (record { text = g; span = nowhere });
+      type_argument = None;
+      arguments =
+          bare_expr (expr (shape.Text x.bytes) (at x)) ∷ [];
+      span = nowhere;
+    })) e
+    ∙ ap (λ (g : Expr). stmt.Call
+    (record { callee = callee.Row (record { text = codes "g_print"; span = nowhere }); type_argument = None; arguments = g ∷ []; span = nowhere }))
     (value_bare (shape.Text x.bytes) (at x) nowhere ∙ ap (λ (z : List ℕ). bare_expr (value (shape.Text z))) f)
     ∙ sym (stmt_bare (Stmt-F.Call (print_call text)))
 
@@ -106,7 +117,8 @@ pub record Closed (ns : Names) (texts : Texts) (w : Word) : Type 0 where
   pub are : IsRead texts statements
   pub shallow : is_shallow (sign.OpenBrace ∷ []) w ≡ true
 
-module _ (value_is : (bytes : List ℕ) → AreBytes bytes → text_value (spelled_text bytes) ≡ bytes) (ns : Names) (row : role_of ns (codes "g_print") ≡ RowName false) where
+module _ (value_is : (bytes : List ℕ) → AreBytes bytes → text_value (spelled_text bytes) ≡ bytes) (ns : Names)
+    (row : role_of ns (codes "g_print") ≡ RowName false) where
   tail_read : (t : Text) (f : Bool) → Closed ns [] (words_behind Other (lexemes t f (calls_marks [])))
   tail_read t f =
       let t1 : Text = put_mark t (Line 4) in
@@ -127,13 +139,17 @@ module _ (value_is : (bytes : List ℕ) → AreBytes bytes → text_value (spell
         shallow = refl;
       }
 
-  call_read : (n o x c e : Token) → n.terminal ≡ Of k.Identifier → n.bytes ≡ codes "g_print" → IsSign o sign.OpenParen → x.terminal ≡ Of k.Text → IsSign c sign.CloseParen → IsSign e sign.Semicolon
+  call_read : (n o x c e : Token) → n.terminal ≡ Of k.Identifier → n.bytes ≡ codes "g_print" → IsSign o sign.OpenParen → x.terminal ≡ Of k.Text
+      → IsSign c sign.CloseParen → IsSign e sign.Semicolon
       → ReadsStmt ns (n ∷ o ∷ x ∷ c ∷ e ∷ []) (stmt.Call (read_call n x c))
   call_read n o x c e a b i j l m =
-      calls e {w = n ∷ o ∷ x ∷ c ∷ []} (call_row {n = n} {t = o} c {w = x ∷ []} a (ap (role_of ns) b ∙ row) i (arguments {u = x ∷ []} {v = []} (single (v.text j)) no_more) l) m
+      calls e {w = n ∷ o ∷ x ∷ c ∷ []}
+      (call_row {n = n} {t = o} c {w = x ∷ []} a (ap (role_of ns) b ∙ row) i (arguments {u = x ∷ []} {v = []} (single (v.text j)) no_more) l) m
 
-  more_read : (text : List ℕ) (texts : Texts) (n o x c e : Token) (w : Word) → n.terminal ≡ Of k.Identifier → n.bytes ≡ codes "g_print" → IsSign o sign.OpenParen → x.terminal ≡ Of k.Text → x.bytes ≡ format_of text → IsSign c sign.CloseParen
-      → IsSign e sign.Semicolon → is_shallow (sign.OpenBrace ∷ []) (n ∷ o ∷ x ∷ c ∷ e ∷ w) ≡ is_shallow (sign.OpenBrace ∷ []) w → Closed ns texts w → Closed ns (text ∷ texts) (n ∷ o ∷ x ∷ c ∷ e ∷ w)
+  more_read : (text : List ℕ) (texts : Texts) (n o x c e : Token) (w : Word) → n.terminal ≡ Of k.Identifier → n.bytes ≡ codes "g_print"
+      → IsSign o sign.OpenParen → x.terminal ≡ Of k.Text → x.bytes ≡ format_of text → IsSign c sign.CloseParen
+      → IsSign e sign.Semicolon → is_shallow (sign.OpenBrace ∷ []) (n ∷ o ∷ x ∷ c ∷ e ∷ w) ≡ is_shallow (sign.OpenBrace ∷ []) w → Closed ns texts w
+      → Closed ns (text ∷ texts) (n ∷ o ∷ x ∷ c ∷ e ∷ w)
   more_read text texts n o x c e w a b i j f l m s q =
       record {
         front = n ∷ o ∷ x ∷ c ∷ e ∷ q.front;
@@ -160,4 +176,5 @@ module _ (value_is : (bytes : List ℕ) → AreBytes bytes → text_value (spell
       let t5 : Text = put_mark t4 (ASign sign.CloseParen) in
       let e : Token = token t5 false (sign_spelling sign.Semicolon) (k.Sign sign.Semicolon) in
       let t6 : Text = put_mark t5 (ASign sign.Semicolon) in
-      more_read text texts n o x c e (words_behind Other (lexemes t6 false (calls_marks texts))) refl refl refl refl (value_is (format_of text) (are_bytes (format_of text) (format_text text h.0))) refl refl refl (rest_read texts h.1 t6 false)
+      more_read text texts n o x c e (words_behind Other (lexemes t6 false (calls_marks texts))) refl refl refl refl
+      (value_is (format_of text) (are_bytes (format_of text) (format_text text h.0))) refl refl refl (rest_read texts h.1 t6 false)

@@ -1,5 +1,5 @@
 -- The run of the unit goes in step with the run of the program.
-use Rattle.std.proofs.Common.{◌≡◌, ◌∙◌, refl, sym, ap, subst, ℕ, suc, ◌+◌, ◌<◌, ◌≤◌, Bool, true, false, List, [], ◌∷◌, ◌++◌, map, drop, Option, Some, None, pos, append-nil, arith}
+use Rattle.std.proofs.Common.{◌≡◌, ◌∙◌, refl, sym, ap, ap₂, subst, ℕ, zero, suc, ◌+◌, ◌<◌, ◌≤◌, Bool, true, false, List, [], ◌∷◌, ◌++◌, map, drop, Option, Some, None, pos, append-nil, arith}
 use Rattle.std.specs.Prelude.{max}
 use Rattle.std.specs.List.{AllByRecursion}
 use Rattle.vg_base.specs.declared.event.VEnd.TheVariants as v
@@ -105,30 +105,39 @@ module _ (env : Env) (name : List ℕ) (body : Body) (sc : Scope) (k : Kind) (ta
 
   -- 3. Blocks of steps
 
+  abbrev AnswersOf : VState → State.State → Type 0
+  AnswersOf x s = Answers true 0 3 v_meaning.machine (meaning p).machine Together x s
+
+  -- one step of the unit answers
   abbrev Answered : VState → State.State → Type 0
-  Answered x s = Answers true 0 3 v_meaning.machine (meaning p).machine Together x s
+  Answered x s = (a : AnswersOf x s) × (a.j ≡ 1)
 
   none_over : (a b : ℕ) → a ≡ 0 → b ≡ 0 → max a b ≤ 0
   none_over a b e f = rw (e, f) (omega arith)
 
   -- some steps of the program and one of the unit
-  answer : (n : ℕ) (x : VState) (s t : State.State) → 0 < n → n ≤ 3 → s.ended ≡ None → step p s ≡ t → IsLow s → IsLow t → most v_meaning.machine n x ≡ 0 → said v_meaning.machine n x ≡ t.said
+  answer : (n : ℕ) (x : VState) (s t : State.State) → 0 < n → n ≤ 3 → s.ended ≡ None → step p s ≡ t → IsLow s → IsLow t → most v_meaning.machine n x ≡ 0
+      → said v_meaning.machine n x ≡ t.said
       → Together (moves v_meaning.machine n x) t → Answered x s
   answer n x s t some short e h low low_too peak says kept =
       let moved : move (meaning p).machine s ≡ (t, t.said) = ap (λ o. unless_ended o s ((meaning p).machine.next s)) e ∙ ap (λ z. (z, z.said)) h in
-      let tops : max ((meaning p).machine.top s) ((meaning p).machine.top t) ≤ 0 = none_over ((meaning p).machine.top s) ((meaning p).machine.top t) (none_owned s low) (none_owned t low_too) in
-      record {
-        n = n;
-        j = 1;
-        some = some;
-        some_too = omega arith;
-        short = λ _. short;
-        short_too = λ _. omega arith;
-        peak = subst (λ z. z ≤ (meaning p).machine.top s + 0) (sym peak) (omega arith);
-        peak_too = let low_peak : max ((meaning p).machine.top s) ((meaning p).machine.top (move (meaning p).machine s).0) ≤ 0 = subst (λ m. max ((meaning p).machine.top s) ((meaning p).machine.top m.0) ≤ 0) (sym moved) tops in omega arith;
-        said = says ∙ sym (append-nil t.said) ∙ ap (λ m. m.1 ++ []) (sym moved);
-        kept = subst (λ m. Together (moves v_meaning.machine n x) m.0) (sym moved) kept;
-      }
+      let tops : max ((meaning p).machine.top s) ((meaning p).machine.top t) ≤ 0 =
+      none_over ((meaning p).machine.top s) ((meaning p).machine.top t) (none_owned s low) (none_owned t low_too) in (
+        record {
+          n = n;
+          j = 1;
+          some = some;
+          some_too = omega arith;
+          short = λ _. short;
+          short_too = λ _. omega arith;
+          peak = subst (λ z. z ≤ (meaning p).machine.top s + 0) (sym peak) (omega arith);
+          peak_too = let low_peak : max ((meaning p).machine.top s) ((meaning p).machine.top (move (meaning p).machine s).0) ≤ 0 =
+              subst (λ m. max ((meaning p).machine.top s) ((meaning p).machine.top m.0) ≤ 0) (sym moved) tops in omega arith;
+          said = says ∙ sym (append-nil t.said) ∙ ap (λ m. m.1 ++ []) (sym moved);
+          kept = subst (λ m. Together (moves v_meaning.machine n x) m.0) (sym moved) kept;
+        },
+        refl,
+      )
 
   entered : (texts : Texts) (s : State.State) (b : IsBefore texts s) → IsInside texts (after_entry env name body s b.block)
   entered texts s b =
@@ -144,7 +153,8 @@ module _ (env : Env) (name : List ℕ) (body : Body) (sc : Scope) (k : Kind) (ta
         code = body.code;
         comes = refl;
         prints = b.code;
-        held = held_on (make s (frame_cells env name body b.block)) (after_entry env name body s b.block) b.literals refl refl (held_make s (frame_cells env name body b.block) b.literals b.held);
+        held = held_on (make s (frame_cells env name body b.block)) (after_entry env name body s b.block) b.literals refl refl
+            (held_make s (frame_cells env name body b.block) b.literals b.held);
         bytes = b.bytes;
       }
 
@@ -152,23 +162,32 @@ module _ (env : Env) (name : List ℕ) (body : Body) (sc : Scope) (k : Kind) (ta
   begins texts s b =
       let i : IsInside texts (after_entry env name body s b.block) = entered texts s b in
       answer 1 (v_opening texts) s (after_entry env name body s b.block) (omega arith) (omega arith) b.quiet.ended
-      (enter_step env name body s b.block k b.quiet.ended b.work takes no_struct (not_silent env name body 0 (next_block s) sc refl b.code)) (quiet_low s b.quiet) (quiet_low (after_entry env name body s b.block) i.quiet) refl refl
+      (enter_step env name body s b.block k b.quiet.ended b.work takes no_struct (not_silent env name body 0 (next_block s) sc refl b.code))
+      (quiet_low s b.quiet) (quiet_low (after_entry env name body s b.block) i.quiet) refl refl
       (inside texts (after_entry env name body s b.block) i)
 
   -- where the statements are left, and nothing is behind them yet
-  goes_on : (rest : Texts) (s : State.State) (i : IsInside rest s) (texts : Texts) (ls : List Literal) (code : List Statement) → rest ≡ texts → drop i.at body.code ≡ code → Prints sc texts ls code → AllByRecursion (Holds s) ls → AreTexts texts
+  goes_on : (rest : Texts) (s : State.State) (i : IsInside rest s) (texts : Texts) (ls : List Literal) (code : List Statement) → rest ≡ texts
+      → drop i.at body.code ≡ code → Prints sc texts ls code → AllByRecursion (Holds s) ls → AreTexts texts
       → Answered (v_inside texts) s
   goes_on rest s i _ _ _ same comes (returns a z) held bytes =
       let t : State.State = after_return env name body s i.block i.cells in
-      let low : IsLow t = record { blocks = plain_with s.blocks i.block (record (plain i.cells) { is_live = false }) i.quiet.blocks refl; last = i.quiet.last } in
-      answer 1 (v_inside []) s t (omega arith) (omega arith) i.quiet.ended (return_step env name body s i.at i.block sc a i.cells i.quiet.ended i.work (got body.code i.at _ _ comes) z i.framed) (quiet_low s i.quiet) low refl refl
+      let low : IsLow t = record {
+        blocks = plain_with s.blocks i.block (record (plain i.cells) { is_live = false }) i.quiet.blocks refl;
+        last =
+            i.quiet.last;
+      } in
+      answer 1 (v_inside []) s t (omega arith) (omega arith) i.quiet.ended
+      (return_step env name body s i.at i.block sc a i.cells i.quiet.ended i.work (got body.code i.at _ _ comes) z i.framed)
+      (quiet_low s i.quiet) low refl refl
       (over t (record { ended = refl; low = low }))
   goes_on rest s i _ _ _ same comes (prints text start x {texts} {ls} {code} q more) held bytes =
       let t : State.State = after_print env name body s i.at i.block text in
       let low : IsLow t = record { blocks = i.quiet.blocks; last = i.quiet.last } in
       let behind_it = behind body.code i.at _ _ comes in
       answer 3 (v_inside (text ∷ texts)) s t (omega arith) (omega arith) i.quiet.ended
-      (print_step env name body s i.at i.block sc start x text i.quiet.ended i.work (got body.code i.at _ _ comes) q held.0 bytes.0 (not_silent env name body (suc i.at) i.block sc behind_it more)) (quiet_low s i.quiet) low refl refl
+      (print_step env name body s i.at i.block sc start x text i.quiet.ended i.work (got body.code i.at _ _ comes) q held.0 bytes.0
+      (not_silent env name body (suc i.at) i.block sc behind_it more)) (quiet_low s i.quiet) low refl refl
       (inside texts t
       (record {
         at = suc i.at;
@@ -188,19 +207,23 @@ module _ (env : Env) (name : List ℕ) (body : Body) (sc : Scope) (k : Kind) (ta
   stays : (s : State.State) → IsOver s → Answered v_over s
   stays s o =
       let moved : move (meaning p).machine s ≡ (s, []) = ap (λ e. unless_ended e s ((meaning p).machine.next s)) o.ended in
-      let tops : max ((meaning p).machine.top s) ((meaning p).machine.top s) ≤ 0 = none_over ((meaning p).machine.top s) ((meaning p).machine.top s) (none_owned s o.low) (none_owned s o.low) in
-      record {
-        n = 1;
-        j = 1;
-        some = omega arith;
-        some_too = omega arith;
-        short = λ _. omega arith;
-        short_too = λ _. omega arith;
-        peak = omega arith;
-        peak_too = let low_peak : max ((meaning p).machine.top s) ((meaning p).machine.top (move (meaning p).machine s).0) ≤ 0 = subst (λ m. max ((meaning p).machine.top s) ((meaning p).machine.top m.0) ≤ 0) (sym moved) tops in omega arith;
-        said = ap (λ m. m.1 ++ []) (sym moved);
-        kept = subst (λ m. Together v_over m.0) (sym moved) (over s o);
-      }
+      let tops : max ((meaning p).machine.top s) ((meaning p).machine.top s) ≤ 0 =
+      none_over ((meaning p).machine.top s) ((meaning p).machine.top s) (none_owned s o.low) (none_owned s o.low) in (
+        record {
+          n = 1;
+          j = 1;
+          some = omega arith;
+          some_too = omega arith;
+          short = λ _. omega arith;
+          short_too = λ _. omega arith;
+          peak = omega arith;
+          peak_too = let low_peak : max ((meaning p).machine.top s) ((meaning p).machine.top (move (meaning p).machine s).0) ≤ 0 =
+              subst (λ m. max ((meaning p).machine.top s) ((meaning p).machine.top m.0) ≤ 0) (sym moved) tops in omega arith;
+          said = ap (λ m. m.1 ++ []) (sym moved);
+          kept = subst (λ m. Together v_over m.0) (sym moved) (over s o);
+        },
+        refl,
+      )
 
   -- The call of `main` answers to the entry, a statement to a call, leaving `main` to its return, and at the end both stay.
   answers : (x : VState) (s : State.State) → Together x s → Answered x s
@@ -211,5 +234,18 @@ module _ (env : Env) (name : List ℕ) (body : Body) (sc : Scope) (k : Kind) (ta
   -- From the state before `main` on the two runs agree.
   pub agree : (texts : Texts) (s : State.State) → IsBefore texts s → Headline (observed v_meaning (v_opening texts)) (observed (meaning p) s)
   agree texts s b =
-      answers_headline v_meaning (meaning p) Together ends (λ x y r _. lives x y r) 0 3 true answers (v_opening texts) s (before texts s b) (omega arith)
+      answers_headline v_meaning (meaning p) Together ends (λ x y r _. lives x y r) 0 3 true (λ x y r. (answers x y r).0) (v_opening texts) s
+      (before texts s b) (omega arith)
       (subst (λ n. n ≤ 0) (sym (none_owned s (quiet_low s b.quiet))) (omega arith))
+
+  -- no count is above 0, however many steps there are
+  none_counted : (n : ℕ) (x : VState) (s : State.State) → Together x s → most (meaning p).machine n s ≡ 0
+  none_counted zero x s r = none_owned s (low_of x s r)
+  none_counted (suc n) x s r =
+      let a = answers x s r in
+      let after : Together (moves v_meaning.machine a.0.n x) (move (meaning p).machine s).0 =
+      subst (λ j. Together (moves v_meaning.machine a.0.n x) (moves (meaning p).machine j s)) a.1 a.0.kept in
+      ap₂ max (none_owned s (low_of x s r)) (none_counted n (moves v_meaning.machine a.0.n x) (move (meaning p).machine s).0 after)
+
+  pub nothing_counted : (texts : Texts) (s : State.State) → IsBefore texts s → (n : ℕ) → most (meaning p).machine n s ≡ 0
+  nothing_counted texts s b n = none_counted n (v_opening texts) s (before texts s b)

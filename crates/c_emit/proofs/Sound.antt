@@ -1,5 +1,5 @@
 -- The unit that is read keeps every rule.
-use Rattle.std.proofs.Common.{◌≡◌, ◌∙◌, refl, sym, ap, ap₂, subst, ℕ, ◌+◌, Bool, true, false, List, [], ◌∷◌, ◌++◌, map, length, codes, pos, Option, Some, None}
+use Rattle.std.proofs.Common.{◌≡◌, ◌∙◌, refl, sym, ap, ap₂, subst, ℕ, zero, ◌+◌, Bool, true, false, List, [], ◌∷◌, ◌++◌, map, length, codes, pos, Option, Some, None}
 use Rattle.c_lexer.specs.declared.token.NumberType.TheVariants.{Gint}
 use Rattle.c_tree.specs.declared.names.Name.{Name}
 use Rattle.c_tree.specs.declared.names.Span.{Span}
@@ -69,7 +69,8 @@ zero_out = refl
 text_checked : (bytes : List ℕ) (o : Span) → checked (expr (shape.Text bytes) o) ≡ known_as o (check_shape (Shape-F.Text bytes))
 text_checked bytes o = checked_level (shape.Text bytes) o ∙ ap (known_as o) (text_out bytes)
 
-zero_checked : (o : Span) → checked (expr (shape.Number (record { value = 0; kind = Gint })) o) ≡ known_as o (check_shape (Shape-F.Number (record { value = 0; kind = Gint })))
+zero_checked : (o : Span)
+    → checked (expr (shape.Number (record { value = 0; kind = Gint })) o) ≡ known_as o (check_shape (Shape-F.Number (record { value = 0; kind = Gint })))
 zero_checked o = checked_level (shape.Number (record { value = 0; kind = Gint })) o ∙ ap (known_as o) zero_out
 
 -- 2. Statements
@@ -99,13 +100,14 @@ return_is s e = body_level (stmt.Return s (Some e)) ∙ return_out s e
 
 -- where `g_print` is the first function of the library, and an `int` is returned
 pub record IsMainContext (c : Context) : Type 0 where
-  pub prints : found c.env.scopes (codes "g_print") ≡ Some (sort.Row 0)
+  pub prints : found c.env.scopes (codes "g_print") ≡ Some (sort.Row zero)
   pub result : c.result ≡ Some int
 
 abbrev call_with : Context → Name → Span → Known → List Fault
 call_with c n o a = (call_by checked c.env (callee.Row n) (record { callee = callee.Row n; type_argument = None; arguments = []; span = o }) (a ∷ [])).faults
 
-named_clean : (c : Context) → IsMainContext c → (w : List ℕ) → w ≡ codes "g_print" → (s o p : Span) (bytes : List ℕ) → call_with c (record { text = w; span = s }) o (known_as p (check_shape (Shape-F.Text bytes))) ≡ []
+named_clean : (c : Context) → IsMainContext c → (w : List ℕ) → w ≡ codes "g_print" → (s o p : Span) (bytes : List ℕ)
+    → call_with c (record { text = w; span = s }) o (known_as p (check_shape (Shape-F.Text bytes))) ≡ []
 named_clean c m w e s o p bytes =
     ap (λ x. call_with c (record { text = x; span = s }) o (known_as p (check_shape (Shape-F.Text bytes)))) e
     ∙ rw m.prints refl
@@ -113,7 +115,8 @@ named_clean c m w e s o p bytes =
 call_clean : (c : Context) → IsMainContext c → (n x d : Token) → n.bytes ≡ codes "g_print" → (body_of (stmt.Call (read_call n x d))).faults c ≡ []
 call_clean c m n x d e =
     ap (λ (b : Body). b.faults c) (call_is (read_call n x d))
-    ∙ ap (behind_first (at n).start) (ap (call_with c (name_at n) (join (at n) (at d))) (text_checked x.bytes (at x)) ∙ named_clean c m n.bytes e (at n) (join (at n) (at d)) (at x) x.bytes)
+    ∙ ap (behind_first (at n).start)
+    (ap (call_with c (name_at n) (join (at n) (at d))) (text_checked x.bytes (at x)) ∙ named_clean c m n.bytes e (at n) (join (at n) (at d)) (at x) x.bytes)
 
 return_clean : (c : Context) → IsMainContext c → (r z : Token) → (body_of (stmt.Return (at r) (Some (read_zero z)))).faults c ≡ []
 return_clean c m r z =

@@ -76,7 +76,8 @@ literal_more : (ls : List Standing) (m : Standing) (start : ℕ) (c : Cell) → 
 literal_more [] m start c e = absurd cc
 literal_more (l ∷ ls) m start c e = go (l.start == start) (literal_more ls m start c) e
   where
-    go : (t : Bool) → (literal_in ls start ≡ Ok c → literal_in (ls ++ m ∷ []) start ≡ Ok c) → cond t (Ok (Ptr l.block 0)) (literal_in ls start) ≡ Ok c → cond t (Ok (Ptr l.block 0)) (literal_in (ls ++ m ∷ []) start) ≡ Ok c
+    go : (t : Bool) → (literal_in ls start ≡ Ok c → literal_in (ls ++ m ∷ []) start ≡ Ok c) → cond t (Ok (Ptr l.block 0)) (literal_in ls start) ≡ Ok c
+        → cond t (Ok (Ptr l.block 0)) (literal_in (ls ++ m ∷ []) start) ≡ Ok c
     go true more k = k
     go false more k = more k
 
@@ -94,7 +95,8 @@ unequal a b lt = ne_eqb a b (omega arith)
 same : (a : ℕ) → (a == a) ≡ true
 same a = eq-eqb a a refl
 
-literal_last : (ls : List Standing) (place start block : ℕ) → place ≤ start → AreBefore place ls → literal_in (ls ++ standing start block ∷ []) start ≡ Ok (Ptr block 0)
+literal_last : (ls : List Standing) (place start block : ℕ) → place ≤ start → AreBefore place ls
+    → literal_in (ls ++ standing start block ∷ []) start ≡ Ok (Ptr block 0)
 literal_last [] place start block le h = rw (same start) refl
 literal_last (l ∷ ls) place start block le h =
     let lt : l.start < place = h.0 in let other : (l.start == start) ≡ false = unequal l.start start (omega arith) in
@@ -106,7 +108,8 @@ stood s l = record (make s (text_cells l.bytes)) { literals = s.literals ++ stan
 
 quiet_literals : (s : State.State) (ls : List Literal) → IsQuiet s → IsQuiet (with_literals s ls)
 quiet_literals s [] q = q
-quiet_literals s (l ∷ ls) q = quiet_literals (stood s l) ls (record { ended = q.ended; blocks = plain_more s.blocks (plain (text_cells l.bytes)) q.blocks refl; last = q.last })
+quiet_literals s (l ∷ ls) q =
+    quiet_literals (stood s l) ls (record { ended = q.ended; blocks = plain_more s.blocks (plain (text_cells l.bytes)) q.blocks refl; last = q.last })
 
 kept_literal : (s : State.State) (ls : List Literal) (l : Literal) → Holds s l → Holds (with_literals s ls) l
 kept_literal s [] l h = h
@@ -122,7 +125,12 @@ literals_held : (s : State.State) (place : ℕ) (ls : List Literal) → Rise pla
 literals_held s place [] r h = tt
 literals_held s place (l ∷ ls) r h = (
   kept_literal (stood s l) ls l
-      (record { block = next_block s; found = literal_last s.literals place l.start (next_block s) r.0 h; cells = block_last s.blocks (plain (text_cells l.bytes)) }),
+      (record {
+        block = next_block s;
+        found = literal_last s.literals place l.start (next_block s) r.0 h;
+        cells =
+            block_last s.blocks (plain (text_cells l.bytes));
+      }),
   literals_held (stood s l) (suc l.start) ls r.1 (before_more s.literals place l.start (next_block s) r.0 h),
 )
 
@@ -141,7 +149,8 @@ pub ready_make : (s : State.State) (cells : List Cell) (ls : List Literal) → I
 ready_make s cells ls r = record { quiet = quiet_make s cells r.quiet; held = held_make s cells ls r.held }
 
 -- what is held hangs on blocks and literals alone
-pub held_on : (s t : State.State) (ls : List Literal) → s.blocks ≡ t.blocks → s.literals ≡ t.literals → AllByRecursion (Holds s) ls → AllByRecursion (Holds t) ls
+pub held_on : (s t : State.State) (ls : List Literal) → s.blocks ≡ t.blocks → s.literals ≡ t.literals → AllByRecursion (Holds s) ls
+    → AllByRecursion (Holds t) ls
 held_on s t [] b m h = tt
 held_on s t (l ∷ ls) b m h =
     let x : Holds s l = h.0 in (
@@ -163,7 +172,11 @@ quiet_types s q =
 
 -- the library's types are made
 pub ready_types : (s : State.State) (ls : List Literal) → IsReady s ls → IsReady (with_types s) ls
-ready_types s ls r = record { quiet = quiet_types s r.quiet; held = held_on (make (make s _) _) (with_types s) ls refl refl (held_make (make s _) _ ls (held_make s _ ls r.held)) }
+ready_types s ls r = record {
+  quiet = quiet_types s r.quiet;
+  held =
+      held_on (make (make s _) _) (with_types s) ls refl refl (held_make (make s _) _ ls (held_make s _ ls r.held));
+}
 
 pub ready_name : (s : State.State) (name : List ℕ) (ls : List Literal) → IsReady s ls → IsReady (with_name s name) ls
 ready_name s name ls r = ready_make (make s _) _ ls (ready_make s _ ls r)

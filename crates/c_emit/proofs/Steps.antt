@@ -89,7 +89,8 @@ module _ (env : Env) (name : List ℕ) (body : Body) where
   still (suc n) s e = ap (λ b. elim b as (λ t. State.State) [ true ↦ settled program n (do_first program s s.work) | false ↦ s ]) e
 
   -- such a statement is no silent item
-  pub not_silent : (k b : ℕ) (sc : Scope) {texts : Texts} {ls : List Literal} {code : List Statement} → drop k body.code ≡ code → Prints sc texts ls code → is_silent program (Run (frame k b)) ≡ false
+  pub not_silent : (k b : ℕ) (sc : Scope) {texts : Texts} {ls : List Literal} {code : List Statement} → drop k body.code ≡ code → Prints sc texts ls code
+      → is_silent program (Run (frame k b)) ≡ false
   not_silent k b sc e (returns a z) = rw (got body.code k _ _ e) refl
   not_silent k b sc e (prints text start x {code = more} p q) = rw (got body.code k _ _ e) refl
 
@@ -104,9 +105,11 @@ module _ (env : Env) (name : List ℕ) (body : Body) where
   abbrev at_work : State.State → Scope → ℕ → Here
   at_work s sc b = here program s sc b
 
-  literal_text : (s : State.State) (start : ℕ) (text : List ℕ) (h : Holds s (format_at start text)) → IsText text → text_of s (Ptr h.block 0) ≡ Ok (format_of text)
+  literal_text : (s : State.State) (start : ℕ) (text : List ℕ) (h : Holds s (format_at start text)) → IsText text
+      → text_of s (Ptr h.block 0) ≡ Ok (format_of text)
   literal_text s start text h t =
-      ap (λ o. bind {A = Place} (bind (live_block o) (λ x. Ok (record { block = h.block; at = 0 }))) (λ p. bind (block_of s p.block) (λ b. bytes_in (drop p.at b.cells)))) h.cells
+      ap (λ o. bind {A = Place} (bind (live_block o) (λ x. Ok (record { block = h.block; at = 0 })))
+      (λ p. bind (block_of s p.block) (λ b. bytes_in (drop p.at b.cells)))) h.cells
       ∙ ap (λ o. bind (live_block o) (λ b. bytes_in (drop 0 b.cells))) h.cells
       ∙ cells_read (format_of text) (format_text text t)
 
@@ -116,7 +119,8 @@ module _ (env : Env) (name : List ℕ) (body : Body) where
   abbrev says : State.State → Answer (List ℕ) → State.State
   says s a = on s a (λ bytes. give_nothing (happens s (Print Out bytes)))
 
-  printed : (s : State.State) (k b : ℕ) (sc : Scope) (start : ℕ) (x : Call) (text : List ℕ) → IsPrint start x → (h : Holds s (format_at start text)) → IsText text
+  printed : (s : State.State) (k b : ℕ) (sc : Scope) (start : ℕ) (x : Call) (text : List ℕ) → IsPrint start x → (h : Holds s (format_at start text))
+      → IsText text
       → call (at_work (taken s) sc b) (onward (taken s) (frame k b)) x ≡ after_print s k b text
   printed s k b sc start x text p h t =
       let c : Here = at_work (taken s) sc b in
@@ -140,13 +144,24 @@ module _ (env : Env) (name : List ℕ) (body : Body) where
 
   -- `return 0;`
   abbrev pub after_return : State.State → ℕ → List Cell → State.State
-  after_return s b cells = record s { blocks = with_block s.blocks b (record (plain cells) { is_live = false }); work = []; said = []; given = Some (Scalar (Int (pos 0))); ended = Some («end».Ended (pos 0)) }
+  after_return s b cells =
+      record s {
+        blocks = with_block s.blocks b (record (plain cells) { is_live = false });
+        work = [];
+        said = [];
+        given = Some (Scalar (Int (pos 0)));
+        ended = Some («end».Ended (pos 0));
+      }
 
   abbrev leaving : State.State → ℕ → List Cell → State.State
   leaving s b cells = record (taken s) { blocks = with_block s.blocks b (record (plain cells) { is_live = false }); given = Some (Scalar (Int (pos 0))) }
 
   abbrev given_back : State.State → ℕ → Option Block → State.State
-  given_back s b o = record (on s (live_block o) (λ x. say_gone (record s { blocks = with_block s.blocks b (record x { is_live = false }) }) x.thing)) { given = Some (Scalar (Int (pos 0))) }
+  given_back s b o = record
+      (on s (live_block o) (λ x. say_gone (record s { blocks = with_block s.blocks b (record x { is_live = false }) }) x.thing)) {
+        given =
+            Some (Scalar (Int (pos 0)));
+      }
 
   returned : (s : State.State) (k b : ℕ) (sc : Scope) (a : Expr) (cells : List Cell) → IsZero a → block_at s.blocks b ≡ Some (plain cells)
       → return_value (at_work (taken s) sc b) (taken s) (frame k b) int (Some a) ≡ leaving s b cells
@@ -160,11 +175,17 @@ module _ (env : Env) (name : List ℕ) (body : Body) where
   finished : (s : State.State) (b : ℕ) (cells : List Cell) → s.ended ≡ None → settle program (leaving s b cells) ≡ after_return s b cells
   finished s b cells e =
       ap (λ n. settled program n (leaving s b cells)) (count (length s.handlers) (length s.sources))
-      ∙ ap (λ o. elim (first_is_silent program o (Finish ∷ [])) as (λ t. State.State) [ true ↦ settled program (255 + 128 * (length s.handlers + length s.sources)) (do_first program (leaving s b cells) (Finish ∷ [])) | false ↦ leaving s b cells ]) e
+      ∙ ap (λ o. elim (first_is_silent program o (Finish ∷ [])) as
+      (λ t. State.State) [
+        | true ↦ settled program (255 + 128 * (length s.handlers + length s.sources))
+            (do_first program (leaving s b cells) (Finish ∷ []))
+        | false ↦ leaving s b cells
+      ]) e
       ∙ still (255 + 128 * (length s.handlers + length s.sources)) (after_return s b cells) refl
 
   pub return_step : (s : State.State) (k b : ℕ) (sc : Scope) (a : Expr) (cells : List Cell) → s.ended ≡ None → s.work ≡ Run (frame k b) ∷ Finish ∷ []
-      → slice_get body.code k ≡ Some (statement sc (Return (Some a))) → IsZero a → block_at s.blocks b ≡ Some (plain cells) → step program s ≡ after_return s b cells
+      → slice_get body.code k ≡ Some (statement sc (Return (Some a))) → IsZero a → block_at s.blocks b ≡ Some (plain cells)
+      → step program s ≡ after_return s b cells
   return_step s k b sc a cells e w g z h =
       ap (λ is. settle program (do_next program (record s { said = [] }) is)) w
       ∙ ap (λ o. settle program (run_statement program (taken s) (frame k b) (at_frame program (frame k b)) o)) g
@@ -187,7 +208,8 @@ module _ (env : Env) (name : List ℕ) (body : Body) where
   taken_in : (s : State.State) (b : ℕ) (k : Kind) → is_struct k ≡ false → enter_body_with s b (int ∷ k ∷ []) ≡ after_entry s b
   taken_in s b k h = rw h refl
 
-  pub enter_step : (s : State.State) (b : ℕ) (k : Kind) → s.ended ≡ None → s.work ≡ Enter 0 (arguments_of b) ∷ Finish ∷ [] → body.parameters ≡ int ∷ k ∷ [] → is_struct k ≡ false
+  pub enter_step : (s : State.State) (b : ℕ) (k : Kind) → s.ended ≡ None → s.work ≡ Enter 0 (arguments_of b) ∷ Finish ∷ [] → body.parameters ≡ int ∷ k ∷ []
+      → is_struct k ≡ false
       → is_silent program (Run (frame 0 (next_block s))) ≡ false → step program s ≡ after_entry s b
   enter_step s b k e w p h q =
       ap (λ is. settle program (do_next program (record s { said = [] }) is)) w

@@ -78,7 +78,8 @@ number_in : {A B C D E : Type 0} → Shape-F A B C D E → Option Number
 number_in (Shape-F.Number n) = Some n
 number_in s = None
 
-text_level : (l : Shape-F Shape Suffix Choice Expr Link) (bytes : List ℕ) → text_in (out-Shape (bare_shape (bare_layer l))) ≡ Some bytes → l ≡ Shape-F.Text bytes
+text_level : (l : Shape-F Shape Suffix Choice Expr Link) (bytes : List ℕ) → text_in (out-Shape (bare_shape (bare_layer l))) ≡ Some bytes
+    → l ≡ Shape-F.Text bytes
 unfolding text_in out-Shape denote.Hole.Carrier.out
 text_level (Shape-F.Text b) bytes e = ap (λ x. Shape-F.Text x) (some_same b bytes e)
 text_level (Shape-F.Number n) bytes e = absurd (none_some bytes e)
@@ -139,10 +140,13 @@ mean_layer =
     meant
     (fold-Link Meant PartSuffix PartChoice Part PartLink mean_shape mean_suffix mean_choice mean_expr mean_link)
 
-meant_level : (e : Expr) (l : Shape-F Shape Suffix Choice Expr Link) → out-Shape (shape_of e) ≡ l → meant e ≡ mean_expr (record { shape = mean_shape (mean_layer l); span = span_of e })
+meant_level : (e : Expr) (l : Shape-F Shape Suffix Choice Expr Link) → out-Shape (shape_of e) ≡ l
+    → meant e ≡ mean_expr (record { shape = mean_shape (mean_layer l); span = span_of e })
 meant_level e l h =
     fold_out-Expr Meant PartSuffix PartChoice Part PartLink mean_shape mean_suffix mean_choice mean_expr mean_link e
-    ∙ ap (λ m. mean_expr (record { shape = m; span = span_of e })) (fold_out-Shape Meant PartSuffix PartChoice Part PartLink mean_shape mean_suffix mean_choice mean_expr mean_link (shape_of e) ∙ ap (λ x. mean_shape (mean_layer x)) h)
+    ∙ ap (λ m. mean_expr (record { shape = m; span = span_of e }))
+    (fold_out-Shape Meant PartSuffix PartChoice Part PartLink mean_shape mean_suffix mean_choice mean_expr mean_link (shape_of e)
+    ∙ ap (λ x. mean_shape (mean_layer x)) h)
 
 pub text_meant : (e : Expr) (bytes : List ℕ) → out-Shape (shape_of e) ≡ Shape-F.Text bytes → IsLiteralAt (span_of e).start e
 text_meant e bytes h c = ap (λ (m : Part). m.value c) (meant_level e (Shape-F.Text bytes) h)
@@ -165,7 +169,9 @@ texts_layer =
 texts_level : (e : Expr) (l : Shape-F Shape Suffix Choice Expr Link) → out-Shape (shape_of e) ≡ l → texts_of e ≡ shape_texts (texts_layer l) (span_of e).start
 texts_level e l h =
     fold_out-Expr (ℕ → Found) Found Found Found Found shape_texts suffix_texts choice_texts expr_texts operand_texts e
-    ∙ ap (λ (f : ℕ → Found). f (span_of e).start) (fold_out-Shape (ℕ → Found) Found Found Found Found shape_texts suffix_texts choice_texts expr_texts operand_texts (shape_of e) ∙ ap (λ x. shape_texts (texts_layer x)) h)
+    ∙ ap (λ (f : ℕ → Found). f (span_of e).start)
+    (fold_out-Shape (ℕ → Found) Found Found Found Found shape_texts suffix_texts choice_texts expr_texts operand_texts (shape_of e)
+    ∙ ap (λ x. shape_texts (texts_layer x)) h)
 
 -- 3. Statements, one level after another
 
@@ -294,7 +300,8 @@ pub record PrintsOne (text : List ℕ) (s : Stmt) : Type 0 where
   pub is_print : IsPrint start call
   pub texts : call_texts texts_of call ≡ format_at start text ∷ []
 
-call_stands : (call : Call) (row : Name) (e : Expr) (bytes : List ℕ) → call.callee ≡ callee.Row row → call.arguments ≡ e ∷ [] → out-Shape (shape_of e) ≡ Shape-F.Text bytes
+call_stands : (call : Call) (row : Name) (e : Expr) (bytes : List ℕ) → call.callee ≡ callee.Row row → call.arguments ≡ e ∷ []
+    → out-Shape (shape_of e) ≡ Shape-F.Text bytes
     → call_texts texts_of call ≡ record { start = (span_of e).start; bytes = bytes } ∷ []
 call_stands call row e bytes r a h = rw (r, a) (rw (texts_level e (Shape-F.Text bytes) h) refl)
 
@@ -308,7 +315,15 @@ print_is s text h =
       call = c.call;
       start = (span_of a.only).start;
       is_call = c.is_call;
-      is_print = record { row = r.row; literal = a.only; is_row = r.is_row; named = ap (λ (x : Name). x.text) r.same; arguments = a.is_only; stands = text_meant a.only (format_of text) l };
+      is_print = record {
+        row = r.row;
+        literal = a.only;
+        is_row = r.is_row;
+        named = ap (λ (x : Name). x.text) r.same;
+        arguments = a.is_only;
+        stands =
+            text_meant a.only (format_of text) l;
+      };
       texts = call_stands c.call r.row a.only (format_of text) r.is_row a.is_only l;
     }
 

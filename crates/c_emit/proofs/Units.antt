@@ -69,12 +69,14 @@ texts_kind_is env c h =
 
 -- 2. Parameters
 
-two_kinds : (env : Env) (ps : List Parameter) (p q : Parameter) → map bare_parameter ps ≡ bare_parameter p ∷ bare_parameter q ∷ [] → p.declared ≡ type base.Int 0 → q.declared ≡ type base.Char 2 → parameter_kinds env ps ≡ int ∷ texts_kind ∷ []
+two_kinds : (env : Env) (ps : List Parameter) (p q : Parameter) → map bare_parameter ps ≡ bare_parameter p ∷ bare_parameter q ∷ []
+    → p.declared ≡ type base.Int 0 → q.declared ≡ type base.Char 2 → parameter_kinds env ps ≡ int ∷ texts_kind ∷ []
 two_kinds env [] p q h e f = absurd (empty_not (bare_parameter p) (bare_parameter q ∷ []) h)
 two_kinds env (a ∷ []) p q h e f = absurd (empty_not (bare_parameter q) [] (tail_same (bare_parameter a) (bare_parameter p) [] (bare_parameter q ∷ []) h))
 two_kinds env (a ∷ b ∷ []) p q h e f =
     let first = head_same (bare_parameter a) (bare_parameter p) (bare_parameter b ∷ []) (bare_parameter q ∷ []) h in
-    let second = head_same (bare_parameter b) (bare_parameter q) [] [] (tail_same (bare_parameter a) (bare_parameter p) (bare_parameter b ∷ []) (bare_parameter q ∷ []) h) in
+    let second = head_same (bare_parameter b) (bare_parameter q) [] []
+    (tail_same (bare_parameter a) (bare_parameter p) (bare_parameter b ∷ []) (bare_parameter q ∷ []) h) in
     ap₂ (λ x y. x ∷ y ∷ [])
     (int_kind env a.declared (ap (λ (x : Parameter). x.declared) first ∙ ap bare_type e))
     (texts_kind_is env b.declared (ap (λ (x : Parameter). x.declared) second ∙ ap bare_type f))
@@ -141,10 +143,12 @@ pub record IsMain (texts : Texts) (items : List Item) : Type 0 where
   pub takes : (env : Env) → parameter_kinds env main.signature.parameters ≡ int ∷ texts_kind ∷ []
   pub body : bare_block main.body ≡ bare_block (main_body texts)
 
-two_items : (texts : Texts) (is : List Item) → map bare_item is ≡ bare_item (item.Include include.Glib) ∷ bare_item (item.Function (main_of texts)) ∷ [] → IsMain texts is
+two_items : (texts : Texts) (is : List Item) → map bare_item is ≡ bare_item (item.Include include.Glib) ∷ bare_item (item.Function (main_of texts)) ∷ []
+    → IsMain texts is
 two_items texts [] h = absurd (empty_not (bare_item (item.Include include.Glib)) (bare_item (item.Function (main_of texts)) ∷ []) h)
 two_items texts (i ∷ []) h =
-    absurd (empty_not (bare_item (item.Function (main_of texts))) [] (tail_same (bare_item i) (bare_item (item.Include include.Glib)) [] (bare_item (item.Function (main_of texts)) ∷ []) h))
+    absurd (empty_not (bare_item (item.Function (main_of texts))) []
+    (tail_same (bare_item i) (bare_item (item.Include include.Glib)) [] (bare_item (item.Function (main_of texts)) ∷ []) h))
 two_items texts (i ∷ j ∷ []) h =
     let first = head_same (bare_item i) (bare_item (item.Include include.Glib)) (bare_item j ∷ []) (bare_item (item.Function (main_of texts)) ∷ []) h in
     let rest = tail_same (bare_item i) (bare_item (item.Include include.Glib)) (bare_item j ∷ []) (bare_item (item.Function (main_of texts)) ∷ []) h in
@@ -156,12 +160,14 @@ two_items texts (i ∷ j ∷ []) h =
       alone = ap₂ (λ x y. x ∷ y ∷ []) a b.1;
       named = ap (λ (f : Definition). f.signature.name.text) b.2;
       gives = λ env. int_kind env b.0.signature.result (ap (λ (f : Definition). f.signature.result) b.2);
-      takes = λ env. two_kinds env b.0.signature.parameters (parameter (type base.Int 0) (codes "argc")) (parameter (type base.Char 2) (codes "argv")) (ap (λ (f : Definition). f.signature.parameters) b.2) refl refl;
+      takes = λ env. two_kinds env b.0.signature.parameters (parameter (type base.Int 0) (codes "argc")) (parameter (type base.Char 2) (codes "argv"))
+          (ap (λ (f : Definition). f.signature.parameters) b.2) refl refl;
       body = ap (λ (f : Definition). f.body) b.2;
     }
 two_items texts (i ∷ j ∷ k ∷ is) h =
     absurd (more_not (bare_item k) (map bare_item is) (tail_same (bare_item j) (bare_item (item.Function (main_of texts))) (bare_item k ∷ map bare_item is) []
-    (tail_same (bare_item i) (bare_item (item.Include include.Glib)) (bare_item j ∷ bare_item k ∷ map bare_item is) (bare_item (item.Function (main_of texts)) ∷ []) h)))
+    (tail_same (bare_item i) (bare_item (item.Include include.Glib)) (bare_item j ∷ bare_item k ∷ map bare_item is)
+    (bare_item (item.Function (main_of texts)) ∷ []) h)))
 
 pub unit_is : (texts : Texts) (u : CUnit) → SameUnit u (unit_of texts) → IsMain texts u.items
 unit_is texts u h = two_items texts u.items (ap (λ (x : CUnit). x.items) h)

@@ -101,7 +101,14 @@ abbrev signature_word : HeadTokens → Word
 signature_word h = h.result ∷ h.name ∷ h.paren ∷ h.int ∷ h.argc ∷ h.comma ∷ h.char ∷ h.star ∷ h.stars ∷ h.argv ∷ h.close ∷ []
 
 abbrev signature : HeadTokens → Signature
-signature h = record { is_static = false; result = int_type h.result; name = name_at h.name; parameters = first h ∷ second h ∷ []; span = extent (signature_word h) }
+signature h = record {
+  is_static = false;
+  result = int_type h.result;
+  name = name_at h.name;
+  parameters = first h ∷ second h ∷ [];
+  span =
+      extent (signature_word h);
+}
 
 abbrev inner_names : HeadTokens → Names
 inner_names h = with_parameters (declared (name_at h.name) FunctionName ∷ library_names) (first h ∷ second h ∷ [])
@@ -121,14 +128,17 @@ second_read : (ns : Names) (h : HeadTokens) → AreHead h → ReadsParameter ns 
 second_read ns h a = named h.argv {w = h.char ∷ h.star ∷ h.stars ∷ []} (texts_read ns h a) refl a.argv
 
 abbrev main_fits_with : HeadTokens → List ℕ → Span → Bool
-main_fits_with h w span = main_fits library_names (record { is_static = false; result = int_type h.result; name = record { text = w; span = at h.name }; parameters = first h ∷ second h ∷ []; span = span })
+main_fits_with h w span =
+    main_fits library_names
+    (record { is_static = false; result = int_type h.result; name = record { text = w; span = at h.name }; parameters = first h ∷ second h ∷ []; span = span })
 
 fits : (h : HeadTokens) → AreHead h → (span : Span) → main_fits_with h h.name.bytes span ≡ true
 fits h a span = ap (λ w. main_fits_with h w span) a.name_bytes
 
 signature_read : (h : HeadTokens) → AreHead h → ReadsSignature library_names (signature_word h) (signature h)
 signature_read h a =
-    signature_is h.name {u = []} {v = h.result ∷ []} {w = h.paren ∷ h.int ∷ h.argc ∷ h.comma ∷ h.char ∷ h.star ∷ h.stars ∷ h.argv ∷ h.close ∷ []} not_static (int_read library_names h.result a.result) a.name
+    signature_is h.name {u = []} {v = h.result ∷ []} {w =
+    h.paren ∷ h.int ∷ h.argc ∷ h.comma ∷ h.char ∷ h.star ∷ h.stars ∷ h.argv ∷ h.close ∷ []} not_static (int_read library_names h.result a.result) a.name
     (some_taken {t = h.paren} h.close {u = h.int ∷ h.argc ∷ []} {w = h.comma ∷ h.char ∷ h.star ∷ h.stars ∷ h.argv ∷ []} a.paren (first_read library_names h a)
     (more_parameters {t = h.comma} {u = h.char ∷ h.star ∷ h.stars ∷ h.argv ∷ []} {w = []} a.comma (second_read library_names h a) no_parameter) a.close)
     (fits h a (extent (signature_word h)))
@@ -157,7 +167,8 @@ pub record IsInclude (t i g : Token) : Type 0 where
   pub behind : i.begins_line ≡ false
   pub file : g.terminal ≡ Header include.Glib
 
-items_read : (t i g : Token) → IsInclude t i g → (h : HeadTokens) → AreHead h → h.result.begins_line ≡ true → (texts : Texts) (w : Word) (q : Closed (inner_names h) texts w)
+items_read : (t i g : Token) → IsInclude t i g → (h : HeadTokens) → AreHead h → h.result.begins_line ≡ true
+    → (texts : Texts) (w : Word) (q : Closed (inner_names h) texts w)
     → ReadsItems library_names (t ∷ i ∷ g ∷ signature_word h ++ h.brace ∷ w) (read_unit h q.statements q.close).items
 items_read t i g n h a line texts w q =
     more_items {u = t ∷ i ∷ g ∷ []} {w = signature_word h ++ h.brace ∷ w} (includes n.hash n.first (n.word, n.word_bytes) n.behind n.file) line
@@ -233,7 +244,8 @@ head_text = put_marks empty (head_before [])
 abbrev behind_brace : Marks → Word
 behind_brace ms = words_behind Other (lexemes head_text false ms)
 
-words_are : (ms : Marks) → words (lexemes empty true (head_before ms)) ≡ the_hash ∷ the_include ∷ the_file ∷ signature_word the_head ++ the_head.brace ∷ behind_brace ms
+words_are : (ms : Marks)
+    → words (lexemes empty true (head_before ms)) ≡ the_hash ∷ the_include ∷ the_file ∷ signature_word the_head ++ the_head.brace ∷ behind_brace ms
 words_are ms = refl
 
 -- 5. The whole text
@@ -262,7 +274,8 @@ same_unit texts ss close r =
     ap (λ (b : Block). record { items = item.Include include.Glib ∷ item.Function (record { signature = bare_signature main_signature; body = b }) ∷ [] })
     (same_body texts ss (join (at the_head.brace) (at close)) r)
 
-module _ (lexed : TokensAreRead) (value_is : (bytes : List ℕ) → AreBytes bytes → text_value (spelled_text bytes) ≡ bytes) (texts : Texts) (bytes : AreTexts texts) where
+module _ (lexed : TokensAreRead) (value_is : (bytes : List ℕ) → AreBytes bytes → text_value (spelled_text bytes) ≡ bytes) (texts : Texts)
+    (bytes : AreTexts texts) where
   closed : Closed (inner_names the_head) texts (behind_brace (calls_marks texts))
   closed = rest_read value_is (inner_names the_head) refl texts bytes head_text false
 
@@ -278,7 +291,10 @@ module _ (lexed : TokensAreRead) (value_is : (bytes : List ℕ) → AreBytes byt
   unit_read : ReadsUnit (words (lexemes empty true marks)) read
   unit_read =
       subst (λ w. ReadsUnit w read) word_is
-      (record { items = items_read the_hash the_include the_file is_include the_head are_head refl texts (behind_brace (calls_marks texts)) closed; shallow = closed.shallow })
+      (record {
+        items = items_read the_hash the_include the_file is_include the_head are_head refl texts (behind_brace (calls_marks texts)) closed;
+        shallow = closed.shallow;
+      })
 
   pub text_of_unit : IsTextOf (unit_of texts) (put_marks empty marks).bytes
   text_of_unit =

@@ -7,5 +7,5 @@ mod program;
 mod tests;
 mod tree;
 
-pub use laws::emitted_units_run;
+pub use laws::{emitted_units_run, emitted_units_stay_within, programs_are_quiet};
 pub use program::emit;

@@ -7,4 +7,5 @@ use Rattle.c_emit.proofs.program.emit.Goals as goal
 pub returns : goal.returns
 returns c =
     on_text c.written.result c.written.ensures
-    (λ text e bytes. subst (IsTextOf (unit_of c.args.texts.now)) (sym e) (text_of_unit c.tokens_are_read.ensures c.pieces_read_back.ensures.text c.args.texts.now bytes))
+    (λ text e bytes. subst (IsTextOf (unit_of c.args.texts.now)) (sym e)
+    (text_of_unit c.tokens_are_read.ensures c.pieces_read_back.ensures.text c.args.texts.now bytes))
