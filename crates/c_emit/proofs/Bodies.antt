@@ -7,11 +7,11 @@ use Rattle.c_tree.specs.declared.code.Stmt.TheFolds.{fold-Stmt, fold_out-Stmt, f
 use Rattle.c_tree.specs.declared.code.Block.{Block, out-Block, roll-Block}
 use Rattle.c_tree.specs.Rules.{with_locals}
 use Rattle.c_tree.specs.Bare.{nowhere, bare_local, bare_stmt, bare_block}
-use Rattle.c_meaning.specs.State.{Literal, Scope, Statement, CallOf, Return}
-use Rattle.c_meaning.specs.Code.{Coded, Slot, stmt_code, block_code, code_of, all_code, one, texts_of, call_texts, stmt_texts, texts_in, block_texts, link_texts, with_variables}
+use Rattle.c_meaning.specs.State.{Literal, Scope}
+use Rattle.c_meaning.specs.Code.{Coded, Slot, stmt_code, block_code, code_of, all_code, texts_of, stmt_texts, texts_in, block_texts, link_texts, with_variables}
 use Rattle.c_emit.specs.Program.{Program as Texts}
 use Rattle.c_emit.specs.Emission.{print_stmt, return_zero, main_body}
-use Rattle.c_emit.proofs.Steps.{Prints, returns, prints, format_at, statement}
+use Rattle.c_emit.proofs.Steps.{Prints, returns, prints, format_at}
 use Rattle.c_emit.proofs.Trees.{bare_of_stmt, PrintsOne, print_is, ReturnsZero, return_is, head_same, tail_same, empty_not, more_not}
 
 -- 1. Statements

@@ -1,11 +1,10 @@
 -- A format that prints a text: its cells hold it, and what is written of it is the text.
-use Rattle.std.proofs.Common.{◌≡◌, ◌∙◌, refl, sym, ap, ℕ, zero, suc, ◌≤◌, ◌<◌, ◌==◌, ◌-◌, ◌^◌, cond, Bool, true, false, List, [], ◌∷◌, ◌++◌, map, Option, Some, None, Ok, pos, negsuc, arith}
+use Rattle.std.proofs.Common.{◌≡◌, refl, sym, ap, ℕ, zero, suc, ◌≤◌, ◌<◌, ◌==◌, ◌-◌, cond, Bool, true, false, List, [], ◌∷◌, ◌++◌, map, Some, Ok, pos, negsuc, arith}
 use Rattle.std.specs.Prelude.{nat_lt, ◌%◌}
 use Rattle.std.proofs.lemmas.Bool.{eqb-true, ltb-true, ltb-false}
 use Rattle.c_tree.specs.Constants.{modulo, signed}
 use Rattle.c_meaning.specs.declared.cell.Cell.{Cell}
 use Rattle.c_meaning.specs.State
-use Rattle.c_meaning.specs.Blocks.{Answer}
 use Rattle.c_meaning.specs.Texts.{text_cells, bytes_in, text_of}
 use Rattle.c_meaning.specs.Formats.{Piece, Byte, Copying, pieces, match_all, write_all, formatted}
 use Rattle.c_emit.specs.Program.{IsText}

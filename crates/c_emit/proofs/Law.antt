@@ -1,11 +1,10 @@
 -- The unit of a program runs as the program does.
-use Rattle.std.proofs.Common.{◌≡◌, ◌∙◌, refl, sym, ap, ap₂, subst, ℕ, ◌+◌, ◌<◌, ◌^◌, List, [], ◌∷◌, ◌++◌, codes, Some, append-nil, arith}
+use Rattle.std.proofs.Common.{◌≡◌, ◌∙◌, refl, sym, ap₂, subst, ℕ, ◌+◌, ◌<◌, ◌^◌, List, [], ◌∷◌, codes, Some, append-nil, arith}
 use Rattle.vg_base.specs.World.{World}
 use Rattle.vg_base.specs.Headline.{Headline, observed, WithinLimits}
 use Rattle.vg_base.specs.Machine.{most}
 use Rattle.c_tree.specs.declared.unit.Function.{Function as Definition}
 use Rattle.c_tree.specs.declared.unit.Include.TheVariants as include
-use Rattle.c_tree.specs.declared.unit.Item.{Item}
 use Rattle.c_tree.specs.declared.unit.Item.TheVariants as item
 use Rattle.c_tree.specs.declared.unit.Unit.{Unit as CUnit}
 use Rattle.c_tree.specs.declared.code.Block.{out-Block}
@@ -21,14 +20,13 @@ use Rattle.c_meaning.specs.Blocks.{next_block}
 use Rattle.c_meaning.specs.Runs.{nothing, with_literals, with_types, with_name, with_main, meaning, CRun}
 use Rattle.c_emit.specs.Program.{Program as Texts, AreTexts}
 use Rattle.c_places.specs.Apart.{Rise, StandApart}
-use Rattle.c_emit.specs.Emission.{unit_of}
 use Rattle.c_emit.specs.Laws.{EmittedUnitsRun, EmittedUnitsStayWithin}
 use Rattle.c_emit.specs.VMeaning.{v_meaning, v_opening, VRun}
 use Rattle.c_emit.proofs.States.{IsReady, ready_literals, ready_types, ready_name, held_on}
 use Rattle.c_emit.proofs.Steps.{program}
 use Rattle.c_emit.proofs.Simulation.{IsBefore, agree, nothing_counted}
 use Rattle.c_emit.proofs.Bodies.{IsCoded, body_is, scope_in}
-use Rattle.c_emit.proofs.Units.{IsMain, unit_is, texts_kind}
+use Rattle.c_emit.proofs.Units.{unit_is, texts_kind}
 
 below : (limit count : ℕ) → 0 < limit → count ≡ 0 → count < limit
 below limit count some h = omega arith

@@ -1,26 +1,21 @@
 -- What is written of the unit of a program: its head, its calls, and what stands behind them.
-use Rattle.std.proofs.Common.{◌≡◌, ◌∙◌, refl, sym, ap, subst, ℕ, ◌<◌, List, [], ◌∷◌, ◌++◌, map, codes, Option, Some, None, append_assoc, append-nil, arith}
+use Rattle.std.proofs.Common.{◌≡◌, ◌∙◌, refl, sym, ap, subst, ℕ, List, [], ◌∷◌, ◌++◌, map, codes, Some, append_assoc, append-nil, arith}
 use Rattle.c_lexer.specs.declared.token.NumberType.TheVariants.{Gint}
 use Rattle.c_lexer.specs.declared.token.Keyword.TheVariants as keyword
 use Rattle.c_lexer.specs.declared.token.Sign.TheVariants as sign
-use Rattle.c_lexer.specs.declared.token.TokenKind.TheVariants as k
-use Rattle.c_lexer.specs.Words.{word_kind}
-use Rattle.c_lexer.specs.Written.{IsWord}
-use Rattle.c_tree.specs.declared.names.Span.{Span}
 use Rattle.c_tree.specs.declared.code.Expr.{Expr}
 use Rattle.c_tree.specs.declared.code.Shape.{Shape, out-Shape}
 use Rattle.c_tree.specs.declared.code.Shape.TheVariants as shape
 use Rattle.c_tree.specs.declared.code.Shape.TheOpen.{Shape-F}
-use Rattle.c_tree.specs.declared.code.Shape.TheFolds.{fold-Shape, fold-Suffix, fold-Choice, fold-Expr, fold-Link, fold_out-Expr, fold_out-Shape, map-Shape}
+use Rattle.c_tree.specs.declared.code.Shape.TheFolds.{fold-Shape, fold-Suffix, fold-Choice, fold-Link, fold_out-Expr, fold_out-Shape, map-Shape}
 use Rattle.c_tree.specs.declared.code.Suffix.{Suffix}
 use Rattle.c_tree.specs.declared.code.Choice.{Choice}
 use Rattle.c_tree.specs.declared.code.Link.{Link}
 use Rattle.c_tree.specs.declared.code.Stmt.TheOpen.{Stmt-F}
 use Rattle.c_tree.specs.declared.unit.Include.TheVariants as include
-use Rattle.c_tree.specs.Make.{expr}
 use Rattle.c_tree.specs.Bare.{nowhere}
 use Rattle.c_printer.specs.declared.grade.Brackets.TheVariants.{Clear}
-use Rattle.c_printer.specs.Marks.{Marks, Mark, Name, AKeyword, Number, Chars, ASign, Space, Line}
+use Rattle.c_printer.specs.Marks.{Marks, Name, AKeyword, Number, Chars, ASign, Space, Line}
 use Rattle.c_printer.specs.Put.{AreBytes}
 use Rattle.c_printer.specs.PutItems.{include_marks, signature_marks, unit_marks}
 use Rattle.c_printer.specs.PutStatements.{Indented, block_marks, stmt_marks, lines, close_marks}

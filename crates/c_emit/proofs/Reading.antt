@@ -1,5 +1,5 @@
 -- The text that is written of the unit of a program is read as that unit.
-use Rattle.std.proofs.Common.{◌≡◌, ◌∙◌, refl, sym, ap, subst, ℕ, Bool, true, false, List, [], ◌∷◌, ◌++◌, map, codes, Option, Some, None, append-nil}
+use Rattle.std.proofs.Common.{◌≡◌, ◌∙◌, refl, sym, ap, ℕ, Bool, true, false, List, [], ◌∷◌, ◌++◌, map, codes, Some, None}
 use Rattle.c_lexer.specs.declared.token.NumberType.TheVariants.{Gint}
 use Rattle.c_lexer.specs.declared.token.Keyword.TheVariants as keyword
 use Rattle.c_lexer.specs.declared.token.Sign.TheVariants as sign
@@ -7,7 +7,6 @@ use Rattle.c_lexer.specs.declared.token.TokenKind.{TokenKind}
 use Rattle.c_lexer.specs.declared.token.TokenKind.TheVariants as k
 use Rattle.c_lexer.specs.Spelling.{keyword_spelling, sign_spelling}
 use Rattle.c_lexer.specs.Texts.{text_value}
-use Rattle.c_tree.specs.declared.names.Span.{Span}
 use Rattle.c_tree.specs.declared.code.Expr.{Expr}
 use Rattle.c_tree.specs.declared.code.Shape.TheVariants as shape
 use Rattle.c_tree.specs.declared.code.Call.{Call}
@@ -17,18 +16,18 @@ use Rattle.c_tree.specs.declared.code.Stmt.TheVariants as stmt
 use Rattle.c_tree.specs.declared.code.Stmt.TheOpen.{Stmt-F}
 use Rattle.c_tree.specs.declared.operators.Level.TheVariants as level
 use Rattle.c_tree.specs.Make.{expr, name_at}
-use Rattle.c_tree.specs.Bare.{nowhere, bare_expr, bare_stmt}
-use Rattle.c_tree.specs.Words.{Of, Token, Word, IsSign, IsWord, Open, is_shallow, at, join, plain, words_behind, Other}
+use Rattle.c_tree.specs.Bare.{nowhere, bare_expr}
+use Rattle.c_tree.specs.Words.{Of, Token, Word, IsSign, is_shallow, at, join, plain, words_behind, Other}
 use Rattle.c_tree.specs.Names.{Names, RowName, role_of}
 use Rattle.c_tree.specs.Values as v
 use Rattle.c_tree.specs.Values.{Value, Primary, no_link, operand, tightest, no_prefix, no_suffix, postfixed, chain, last_choice, no_argument, arguments, no_more}
-use Rattle.c_tree.specs.Statements.{ReadsStmt, ReadsStmts, ReadsCall, calls, call_row, returns_value, no_stmt, more_stmts}
-use Rattle.c_printer.specs.Marks.{Marks, Mark, Name, AKeyword, Number, Chars, ASign, Space, Line, put_mark}
+use Rattle.c_tree.specs.Statements.{ReadsStmt, ReadsStmts, calls, call_row, returns_value, no_stmt, more_stmts}
+use Rattle.c_printer.specs.Marks.{Name, AKeyword, Number, Chars, ASign, Space, Line, put_mark}
 use Rattle.c_printer.specs.Put.{AreBytes, spelled_text, spelled_number}
 use Rattle.c_printer.specs.Text.{Text}
 use Rattle.c_printer.specs.Writable.{lexeme, lexemes}
 use Rattle.c_printer.proofs.StatementReading.{stmt_bare}
-use Rattle.c_emit.specs.Program.{Program as Texts, IsText, AreTexts}
+use Rattle.c_emit.specs.Program.{Program as Texts, AreTexts}
 use Rattle.c_emit.specs.Emission.{format_of, value, print_call, print_stmt, return_zero, statements}
 use Rattle.c_emit.proofs.Formats.{format_text}
 use Rattle.c_emit.proofs.Marks.{calls_marks, are_bytes}

@@ -1,15 +1,13 @@
 -- The run of the unit goes in step with the run of the program.
-use Rattle.std.proofs.Common.{◌≡◌, ◌∙◌, refl, sym, ap, ap₂, subst, ℕ, zero, suc, ◌+◌, ◌<◌, ◌≤◌, Bool, true, false, List, [], ◌∷◌, ◌++◌, map, drop, Option, Some, None, pos, append-nil, arith}
+use Rattle.std.proofs.Common.{◌≡◌, ◌∙◌, refl, sym, ap, ap₂, subst, ℕ, zero, suc, ◌+◌, ◌<◌, ◌≤◌, true, false, List, [], ◌∷◌, ◌++◌, map, drop, Some, None, pos, append-nil, arith}
 use Rattle.std.specs.Prelude.{max}
 use Rattle.std.specs.List.{AllByRecursion}
 use Rattle.vg_base.specs.declared.event.VEnd.TheVariants as v
 use Rattle.vg_base.specs.declared.event.CEnd.TheVariants as c
-use Rattle.vg_base.specs.declared.event.Event.TheVariants.{Print}
-use Rattle.vg_base.specs.declared.event.Stream.TheVariants.{Out}
 use Rattle.vg_base.specs.Run.{SameEnd}
 use Rattle.vg_base.specs.Machine.{Answers, unless_ended, move, moves, said, most}
-use Rattle.vg_base.specs.World.{World, Mates}
-use Rattle.vg_base.specs.Headline.{Headline, Happens, Said, observed}
+use Rattle.vg_base.specs.World.{Mates}
+use Rattle.vg_base.specs.Headline.{Headline, observed}
 use Rattle.vg_base.proofs.HeadlineLaws.{answers_headline}
 use Rattle.c_tree.specs.declared.kinds.Kind.{Kind}
 use Rattle.c_tree.specs.Kinds.{int, is_struct}
@@ -18,7 +16,7 @@ use Rattle.c_meaning.specs.declared.cell.Cell.{Cell}
 use Rattle.c_meaning.specs.State
 use Rattle.c_meaning.specs.State.{Block, Literal, Scope, Statement, Body, Item, Run, Enter, Finish}
 use Rattle.c_meaning.specs.Blocks.{block_at, plain, next_block, live, most_owned, make}
-use Rattle.c_meaning.specs.Steps.{step, is_silent}
+use Rattle.c_meaning.specs.Steps.{step}
 use Rattle.c_meaning.specs.Values.{Program}
 use Rattle.c_meaning.specs.Runs.{meaning}
 use Rattle.c_emit.specs.Program.{Program as Texts, AreTexts}

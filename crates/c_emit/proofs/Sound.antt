@@ -1,5 +1,5 @@
 -- The unit that is read keeps every rule.
-use Rattle.std.proofs.Common.{◌≡◌, ◌∙◌, refl, sym, ap, ap₂, subst, ℕ, zero, ◌+◌, Bool, true, false, List, [], ◌∷◌, ◌++◌, map, length, codes, pos, Option, Some, None}
+use Rattle.std.proofs.Common.{◌≡◌, ◌∙◌, refl, ap, ap₂, ℕ, zero, List, [], ◌∷◌, ◌++◌, map, codes, Some, None}
 use Rattle.c_lexer.specs.declared.token.NumberType.TheVariants.{Gint}
 use Rattle.c_tree.specs.declared.names.Name.{Name}
 use Rattle.c_tree.specs.declared.names.Span.{Span}

@@ -1,5 +1,5 @@
 -- States before the first step: blocks that are no things, and text literals that are found.
-use Rattle.std.proofs.Common.{◌≡◌, ◌∙◌, refl, sym, ap, ℕ, zero, suc, ◌≤◌, ◌<◌, ◌==◌, cond, Bool, true, false, List, [], ◌∷◌, ◌++◌, length, Option, Some, None, Ok, arith}
+use Rattle.std.proofs.Common.{◌≡◌, ◌∙◌, refl, sym, ap, ℕ, zero, suc, ◌≤◌, ◌<◌, ◌==◌, cond, Bool, true, false, List, [], ◌∷◌, ◌++◌, length, Some, None, Ok, arith}
 use Rattle.std.specs.Prelude.{slice_get}
 use Rattle.std.specs.List.{AllByRecursion}
 use Rattle.std.proofs.lemmas.Bool.{eq-eqb, ne_eqb}
@@ -8,7 +8,7 @@ use Rattle.c_meaning.specs.declared.cell.Cell.{Cell}
 use Rattle.c_meaning.specs.declared.cell.Cell.TheVariants.{Ptr}
 use Rattle.c_meaning.specs.State
 use Rattle.c_meaning.specs.State.{Block, Literal, Standing}
-use Rattle.c_meaning.specs.Blocks.{Answer, block_at, plain, make, next_block, put_at, with_block, rows_of}
+use Rattle.c_meaning.specs.Blocks.{block_at, plain, make, next_block, put_at, with_block, rows_of}
 use Rattle.c_meaning.specs.Texts.{text_cells}
 use Rattle.c_meaning.specs.Values.{literal_in}
 use Rattle.c_meaning.specs.Runs.{nothing, with_literals, with_types, with_name}

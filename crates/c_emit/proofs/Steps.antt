@@ -1,11 +1,10 @@
 -- The steps of a `main` that prints texts and returns 0.
-use Rattle.std.proofs.Common.{◌≡◌, ◌∙◌, refl, sym, ap, ℕ, zero, suc, ◌+◌, ◌-◌, ◌*◌, cond, Bool, true, false, List, [], ◌∷◌, ◌++◌, length, codes, pos, Option, Some, None, Ok, drop, arith}
+use Rattle.std.proofs.Common.{◌≡◌, ◌∙◌, refl, ap, ℕ, zero, suc, ◌+◌, ◌-◌, ◌*◌, true, false, List, [], ◌∷◌, ◌++◌, length, codes, pos, Option, Some, None, Ok, drop, arith}
 use Rattle.std.specs.Prelude.{slice_get}
-use Rattle.vg_base.specs.declared.event.CEnd.{CEnd}
 use Rattle.vg_base.specs.declared.event.CEnd.TheVariants as «end»
 use Rattle.vg_base.specs.declared.event.Event.TheVariants.{Print}
 use Rattle.vg_base.specs.declared.event.Stream.TheVariants.{Out}
-use Rattle.vg_base.specs.Headline.{Said, Happens}
+use Rattle.vg_base.specs.Headline.{Happens}
 use Rattle.c_tree.specs.declared.names.Name.{Name}
 use Rattle.c_tree.specs.declared.code.Expr.{Expr}
 use Rattle.c_tree.specs.declared.code.Call.{Call}

@@ -1,15 +1,15 @@
 -- What stands in a unit that is the unit of a program, apart from places.
-use Rattle.std.proofs.Common.{◌≡◌, ◌∙◌, refl, sym, ap, subst, ℕ, List, [], ◌∷◌, ◌++◌, map, codes, pos, Option, Some, None, Ok}
+use Rattle.std.proofs.Common.{◌≡◌, ◌∙◌, refl, sym, ap, ℕ, List, [], ◌∷◌, map, codes, Option, Some, None}
 use Rattle.std.specs.Option.{option_map}
 use Rattle.c_lexer.specs.declared.token.NumberType.TheVariants.{Gint}
 use Rattle.c_tree.specs.declared.names.Name.{Name}
 use Rattle.c_tree.specs.declared.names.Number.{Number}
 use Rattle.c_tree.specs.declared.names.Span.{Span}
-use Rattle.c_tree.specs.declared.code.Expr.{Expr, out-Expr, roll-Expr}
+use Rattle.c_tree.specs.declared.code.Expr.{Expr, roll-Expr}
 use Rattle.c_tree.specs.declared.code.Shape.{Shape, out-Shape}
 use Rattle.c_tree.specs.declared.code.Shape.TheVariants as shape
 use Rattle.c_tree.specs.declared.code.Shape.TheOpen.{Shape-F, Expr-F}
-use Rattle.c_tree.specs.declared.code.Shape.TheFolds.{fold-Shape, fold-Suffix, fold-Choice, fold-Expr, fold-Link, fold_out-Expr, fold_out-Shape, map-Shape}
+use Rattle.c_tree.specs.declared.code.Shape.TheFolds.{fold-Shape, fold-Suffix, fold-Choice, fold-Link, fold_out-Expr, fold_out-Shape, map-Shape}
 use Rattle.c_tree.specs.declared.code.Suffix.{Suffix}
 use Rattle.c_tree.specs.declared.code.Choice.{Choice, roll-Choice}
 use Rattle.c_tree.specs.declared.code.Link.{Link, roll-Link}
@@ -18,18 +18,16 @@ use Rattle.c_tree.specs.declared.code.Callee.{Callee}
 use Rattle.c_tree.specs.declared.code.Callee.TheVariants as callee
 use Rattle.c_tree.specs.declared.code.Stmt.{Stmt, out-Stmt}
 use Rattle.c_tree.specs.declared.code.Stmt.TheVariants as stmt
-use Rattle.c_tree.specs.declared.code.Stmt.TheOpen.{Stmt-F, Block-F}
-use Rattle.c_tree.specs.declared.code.Stmt.TheFolds.{fold-Stmt, fold-Block, fold_out-Stmt, map-Stmt}
+use Rattle.c_tree.specs.declared.code.Stmt.TheOpen.{Stmt-F}
+use Rattle.c_tree.specs.declared.code.Stmt.TheFolds.{fold-Stmt, fold_out-Stmt, map-Stmt}
 use Rattle.c_tree.specs.declared.code.Block.{Block, roll-Block}
 use Rattle.c_tree.specs.Make.{expr, span_of, shape_of}
 use Rattle.c_tree.specs.Bare.{nowhere, bare_name, bare_shape, bare_suffix, bare_expr, bare_local, bare_callee, bare_call, bare_stmt, bare_block}
-use Rattle.c_meaning.specs.declared.cell.Cell.TheVariants.{Int}
-use Rattle.c_meaning.specs.State.{Literal, Scalar, Scope, Statement, CallOf, Return}
-use Rattle.c_meaning.specs.Values.{Context, Meant, PartSuffix, PartChoice, Part, PartLink, meant, mean_shape, mean_suffix, mean_choice, mean_expr, mean_link, as_value, literal_in}
-use Rattle.c_meaning.specs.Code.{Coded, Slot, stmt_code, block_code, all_code, one, shape_texts, suffix_texts, choice_texts, expr_texts, operand_texts, texts_of, call_texts, stmt_texts, texts_in, link_texts}
-use Rattle.c_emit.specs.Program.{Program as Texts}
+use Rattle.c_meaning.specs.State.{Literal}
+use Rattle.c_meaning.specs.Values.{Meant, PartSuffix, PartChoice, Part, PartLink, meant, mean_shape, mean_suffix, mean_choice, mean_expr, mean_link}
+use Rattle.c_meaning.specs.Code.{shape_texts, suffix_texts, choice_texts, expr_texts, operand_texts, texts_of, call_texts}
 use Rattle.c_emit.specs.Emission.{format_of, value, name, print_call, print_stmt, return_zero}
-use Rattle.c_emit.proofs.Steps.{IsPrint, IsZero, IsLiteralAt, Prints, returns, prints, format_at, statement}
+use Rattle.c_emit.proofs.Steps.{IsPrint, IsZero, IsLiteralAt, format_at}
 
 pub some_same : {A : Type 0} (x y : A) → Some x ≡ Some y → x ≡ y
 some_same x y h = cc

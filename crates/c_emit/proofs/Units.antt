@@ -1,5 +1,5 @@
 -- What stands in a unit that is the unit of a program: `main`, and its code.
-use Rattle.std.proofs.Common.{◌≡◌, ◌∙◌, refl, sym, ap, ap₂, subst, ℕ, ◌+◌, List, [], ◌∷◌, ◌++◌, map, codes, Option, Some, None, append-nil}
+use Rattle.std.proofs.Common.{◌≡◌, ◌∙◌, refl, ap, ap₂, ℕ, ◌+◌, List, [], ◌∷◌, map, codes, Option, Some, None}
 use Rattle.std.specs.Option.{option_map}
 use Rattle.c_tree.specs.declared.names.Base.{Base}
 use Rattle.c_tree.specs.declared.names.Base.TheVariants as base
@@ -10,7 +10,6 @@ use Rattle.c_tree.specs.declared.unit.Include.TheVariants as include
 use Rattle.c_tree.specs.declared.unit.Item.{Item}
 use Rattle.c_tree.specs.declared.unit.Item.TheVariants as item
 use Rattle.c_tree.specs.declared.unit.Parameter.{Parameter}
-use Rattle.c_tree.specs.declared.unit.Signature.{Signature}
 use Rattle.c_tree.specs.declared.unit.Unit.{Unit as CUnit}
 use Rattle.c_tree.specs.declared.kinds.Kind.{Kind}
 use Rattle.c_tree.specs.Kinds.{int, char}

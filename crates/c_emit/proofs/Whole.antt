@@ -1,38 +1,32 @@
 -- The text that is written of a program is the text of its unit.
-use Rattle.std.proofs.Common.{◌≡◌, ◌∙◌, refl, sym, ap, ap₂, subst, ℕ, Bool, true, false, List, [], ◌∷◌, ◌++◌, map, codes, Option, Some, None, Result, Ok, Err, IfOk, append-nil}
+use Rattle.std.proofs.Common.{◌≡◌, ◌∙◌, refl, sym, ap, subst, ℕ, Bool, true, false, List, [], ◌∷◌, ◌++◌, codes, Some, Result, Ok, Err, IfOk, append-nil}
 use Rattle.c_lexer.specs.declared.token.Keyword.TheVariants as keyword
 use Rattle.c_lexer.specs.declared.token.Sign.TheVariants as sign
 use Rattle.c_lexer.specs.declared.token.TokenKind.{TokenKind}
 use Rattle.c_lexer.specs.declared.token.TokenKind.TheVariants as k
-use Rattle.c_lexer.specs.Spelling.{keyword_spelling, sign_spelling}
 use Rattle.c_lexer.specs.Texts.{text_value}
-use Rattle.c_lexer.specs.Tokens.{Tokens, all_of}
 use Rattle.c_tree.specs.declared.names.Base.TheVariants as base
 use Rattle.c_tree.specs.declared.names.CType.{CType}
 use Rattle.c_tree.specs.declared.names.Span.{Span}
 use Rattle.c_tree.specs.declared.code.Block.{Block}
 use Rattle.c_tree.specs.declared.code.Stmt.{Stmt}
 use Rattle.c_tree.specs.declared.kinds.Fault.{Fault}
-use Rattle.c_tree.specs.declared.kinds.Sort.TheVariants as sort
 use Rattle.c_tree.specs.declared.unit.Function.{Function as Definition}
 use Rattle.c_tree.specs.declared.unit.Include.TheVariants as include
-use Rattle.c_tree.specs.declared.unit.Item.{Item}
 use Rattle.c_tree.specs.declared.unit.Item.TheVariants as item
 use Rattle.c_tree.specs.declared.unit.Parameter.{Parameter}
 use Rattle.c_tree.specs.declared.unit.Signature.{Signature}
 use Rattle.c_tree.specs.declared.unit.Unit.{Unit as CUnit}
-use Rattle.c_tree.specs.Answers.{CReads, IsSound}
 use Rattle.c_tree.specs.Bare.{SameUnit, nowhere, bare_signature, bare_block}
-use Rattle.c_tree.specs.Checks.{checked}
-use Rattle.c_tree.specs.Env.{Env, library, found, opened, kind_of}
+use Rattle.c_tree.specs.Env.{Env, library, opened, kind_of}
 use Rattle.c_tree.specs.Items.{ReadsItem, ReadsItems, ReadsUnit, ReadsParameter, ReadsSignature, includes, function_is, signature_is, not_static, some_taken, named, more_parameters, no_parameter, no_item, more_items}
 use Rattle.c_tree.specs.Make.{name_at, block}
-use Rattle.c_tree.specs.Names.{Names, RowName, FunctionName, library_names, role_of, main_fits, declared, with_parameters}
-use Rattle.c_tree.specs.Rules.{Context, Body, check_block, checked_block}
-use Rattle.c_tree.specs.Statements.{ReadsBlock, block_is, no_local}
+use Rattle.c_tree.specs.Names.{Names, FunctionName, library_names, main_fits, declared, with_parameters}
+use Rattle.c_tree.specs.Rules.{Context, Body}
+use Rattle.c_tree.specs.Statements.{block_is, no_local}
 use Rattle.c_tree.specs.Types.{ReadsType, type_is, no_const, no_star, more_stars, int_is, char_is}
-use Rattle.c_tree.specs.Unit.{unit_faults, has_main, item_faults, body_faults, label_faults, target_faults, block_end, with_function, with_parameters as behind_parameters}
-use Rattle.c_tree.specs.Words.{Token, Word, IsSign, IsWord, IsName, Of, Header, at, extent, join, is_shallow, words, words_behind, Other}
+use Rattle.c_tree.specs.Unit.{unit_faults, body_faults, label_faults, target_faults, block_end, with_function, with_parameters as behind_parameters}
+use Rattle.c_tree.specs.Words.{Token, Word, IsSign, IsWord, IsName, Of, Header, at, extent, join, words, words_behind, Other}
 use Rattle.c_printer.specs.declared.grade.Brackets.TheVariants.{Clear}
 use Rattle.c_printer.specs.Laws.{TokensAreRead}
 use Rattle.c_printer.specs.Marks.{Marks, put_marks}
@@ -44,7 +38,6 @@ use Rattle.c_printer.specs.Writable.{lexemes}
 use Rattle.c_printer.proofs.StatementReading.{block_bare}
 use Rattle.c_emit.specs.Program.{Program as Texts, AreTexts}
 use Rattle.c_emit.specs.Emission.{unit_of, main_signature, main_function, statements}
-use Rattle.c_emit.proofs.Trees.{bare_of_stmt}
 use Rattle.c_emit.proofs.Marks.{head_before, calls_marks, unit_written, unit_writable}
 use Rattle.c_emit.proofs.Reading.{Closed, IsRead, rest_read, all_same}
 use Rattle.c_emit.proofs.Sound.{IsMainContext, IsClean, all_clean, bodies_of}

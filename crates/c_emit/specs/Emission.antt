@@ -1,5 +1,5 @@
 -- The unit of C that is written for a program: `main` prints its texts one after another and returns 0.
-use Rattle.std.specs.Prelude.{ℕ, ◌==◌, Bool, false, if◌then◌else◌, List, [], ◌∷◌, ◌++◌, map, codes, Some, None}
+use Rattle.std.specs.Prelude.{ℕ, ◌==◌, false, if◌then◌else◌, List, [], ◌∷◌, ◌++◌, map, codes, Some, None}
 use Rattle.std.specs.List.{flat_map}
 use Rattle.c_lexer.specs.declared.token.NumberType.TheVariants.{Gint}
 use Rattle.c_tree.specs.declared.names.Name.{Name}
