@@ -4,42 +4,6 @@ use Rattle.std.proofs.lemmas.List.{take_all}
 use Rattle.c_meaning.specs.declared.cell.Cell.{Cell}
 use Rattle.glib_model.specs.Arguments.{one_of, two_of, three_of}
 
-pub is_one : (xs : List Cell) (d : Cell) → length xs ≡ 1 → Some (get_or xs 0 d) ≡ one_of xs
-is_one [] d long = absurd (omega arith)
-is_one (x ∷ []) d long = refl
-is_one (x ∷ y ∷ xs) d long = absurd (omega arith)
-
-pub is_none : (xs : List Cell) → (length xs ≡ 1 → ⊥) → None ≡ one_of xs
-is_none [] out = refl
-is_none (x ∷ []) out = absurd (out refl)
-is_none (x ∷ y ∷ xs) out = refl
-
-pub is_two : (xs : List Cell) (d : Cell) → length xs ≡ 2 → Some (get_or xs 0 d, get_or xs 1 d) ≡ two_of xs
-is_two [] d long = absurd (omega arith)
-is_two (x ∷ []) d long = absurd (omega arith)
-is_two (x ∷ y ∷ []) d long = refl
-is_two (x ∷ y ∷ z ∷ xs) d long = absurd (omega arith)
-
-pub is_not_two : (xs : List Cell) → (length xs ≡ 2 → ⊥) → None ≡ two_of xs
-is_not_two [] out = refl
-is_not_two (x ∷ []) out = refl
-is_not_two (x ∷ y ∷ []) out = absurd (out refl)
-is_not_two (x ∷ y ∷ z ∷ xs) out = refl
-
-pub is_three : (xs : List Cell) (d : Cell) → length xs ≡ 3 → Some (get_or xs 0 d, get_or xs 1 d, get_or xs 2 d) ≡ three_of xs
-is_three [] d long = absurd (omega arith)
-is_three (x ∷ []) d long = absurd (omega arith)
-is_three (x ∷ y ∷ []) d long = absurd (omega arith)
-is_three (x ∷ y ∷ z ∷ []) d long = refl
-is_three (x ∷ y ∷ z ∷ w ∷ xs) d long = absurd (omega arith)
-
-pub is_not_three : (xs : List Cell) → (length xs ≡ 3 → ⊥) → None ≡ three_of xs
-is_not_three [] out = refl
-is_not_three (x ∷ []) out = refl
-is_not_three (x ∷ y ∷ []) out = refl
-is_not_three (x ∷ y ∷ z ∷ []) out = absurd (out refl)
-is_not_three (x ∷ y ∷ z ∷ w ∷ xs) out = refl
-
 -- the arguments again
 pub from_one : (xs : List Cell) (a : Cell) → one_of xs ≡ Some a → xs ≡ a ∷ []
 from_one [] a is = cc

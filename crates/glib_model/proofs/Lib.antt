@@ -7,6 +7,8 @@ pub mod FoundLemmas
 pub mod LineLemmas
 pub mod MakingLemmas
 pub mod MarkLemmas
+pub mod PropagationLemmas
+pub mod QuarkLemmas
 pub mod Rows
 pub mod Shapes
 pub mod Telling

@@ -17,22 +17,6 @@ use Rattle.glib_model.specs.declared.ends.LibWhat.TheVariants as what
 use Rattle.glib_model.specs.Ends.{Tells, RefusedBy, IsRow, InRun, finished}
 use Rattle.glib_model.proofs.Telling.{quiet_tells}
 
--- 1. Lists of arguments
-
--- a list of one, two or three elements
-pub one : {A : Type 0} (xs : List A) (a : A) → length xs ≡ 1 → get_or xs 0 a ≡ a → xs ≡ a ∷ []
-one [] a long is = absurd (omega arith)
-one (x ∷ []) a long is = ap (λ y. y ∷ []) is
-one (x ∷ y ∷ xs) a long is = absurd (omega arith)
-
-pub two : {A : Type 0} (xs : List A) (a b : A) → length xs ≡ 2 → get_or xs 0 a ≡ a → get_or xs 1 b ≡ b → xs ≡ a ∷ b ∷ []
-two [] a b long is also = absurd (omega arith)
-two (x ∷ []) a b long is also = absurd (omega arith)
-two (x ∷ y ∷ []) a b long is also = ap (λ z. z ∷ y ∷ []) is ∙ ap (λ z. a ∷ z ∷ []) also
-two (x ∷ y ∷ z ∷ xs) a b long is also = absurd (omega arith)
-
--- 2. Telling
-
 -- what is told of a state is told of an equal one
 pub tells_along : (s a b : State.State) (heap : List (Option (List Cell))) (answer : LibEnd) → a ≡ b → Tells s b heap answer → Tells s a heap answer
 tells_along s a b heap answer same tells = let P : State.State → Type 0 = λ x. Tells s x heap answer in subst P (sym same) tells

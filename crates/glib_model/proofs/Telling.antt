@@ -20,10 +20,10 @@ use Rattle.glib_model.specs.Ends.{with_cells, refreshed, stored, cells_in, noted
 
 -- 1. Nothing was stored
 
-same_cells : (b : Block) → with_cells b (seen b) ≡ b
+pub same_cells : (b : Block) → with_cells b (seen b) ≡ b
 same_cells b = elim b.is_live as (λ live. with_cells b (cond live (Some b.cells) None) ≡ b) [ true ↦ refl | false ↦ refl ]
 
-refreshed_same : (bs : List Block) (more : List (Option (List Cell))) → refreshed bs (map seen bs ++ more) ≡ bs
+pub refreshed_same : (bs : List Block) (more : List (Option (List Cell))) → refreshed bs (map seen bs ++ more) ≡ bs
 refreshed_same [] more = refl
 refreshed_same (b ∷ bs) more = ap (λ x. x ∷ refreshed bs (map seen bs ++ more)) (same_cells b) ∙ ap (λ xs. b ∷ xs) (refreshed_same bs more)
 
@@ -36,7 +36,7 @@ refreshed_freed : (bs : List Block) (more : List (Option (List Cell))) (n : ℕ)
 refreshed_freed bs more zero = refreshed_same bs more
 refreshed_freed bs more (suc n) = refreshed_set bs more n
 
-abbrev with_blocks : State.State → List Block → State.State
+abbrev pub with_blocks : State.State → List Block → State.State
 with_blocks s bs = record s { blocks = bs }
 
 pub stored_more : (s : State.State) (heap more : List (Option (List Cell))) → heap_of s ≡ heap → stored s (heap ++ more) ≡ s

@@ -1,14 +1,15 @@
 -- What stands in errors.
-use Rattle.std.specs.Prelude.{ℕ, ◌&&◌, Bool, List, Ok}
+use Rattle.std.specs.Prelude.{ℕ, ◌&&◌, Bool, List, Ok, Err}
 use Rattle.c_tree.specs.Kinds.{int, uint}
 use Rattle.c_meaning.specs.declared.cell.Cell.{Cell}
 use Rattle.c_meaning.specs.State
 use Rattle.c_meaning.specs.State.{Place}
-use Rattle.c_meaning.specs.Blocks.{Answer, bind, get}
-use Rattle.c_meaning.specs.Numbers.{as_kind, number_of}
+use Rattle.c_meaning.specs.Blocks.{Answer, bind, get, get_cells}
+use Rattle.c_meaning.specs.Numbers.{as_kind, number_of, pointed}
 use Rattle.c_meaning.specs.Texts.{text_of}
 use Rattle.c_meaning.specs.BlockRows.{same_number}
 use Rattle.glib_model.specs.declared.parts.ErrorParts.{ErrorParts}
+use Rattle.glib_model.specs.declared.propagation.Target.{Target}
 
 abbrev pub place : ℕ → ℕ → Place
 place block at = record { block = block; at = at }
@@ -35,3 +36,11 @@ seen_parts p = record { domain = p.domain; code = p.code; message = p.message.it
 -- whether it has that domain and that code
 abbrev pub has_code : State.State → ℕ → Cell → Cell → Answer Bool
 has_code s n d c = bind (bind (domain_cell s n) number_of) (λ x. bind (number_of d) (λ y. bind (bind (code_cell s n) number_of) (λ z. bind (number_of c) (λ w. Ok (same_number x y && same_number z w)))))
+
+-- the place of a cell that a pointer leads to
+abbrev pub destination : State.State → Cell → Answer Place
+destination s d = bind (pointed s d) (λ p. bind (get_cells s p 1) (λ old. Ok p))
+
+abbrev pub seen_target : Answer Target → Answer Place
+seen_target (Ok t) = Ok (place t.block t.at)
+seen_target (Err u) = Err u

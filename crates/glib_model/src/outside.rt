@@ -1,4 +1,4 @@
-// The library's functions of ends and of the input.
+// The library's functions of ends, of the input and of quarks.
 
 ghost use Rattle.std.specs.Prelude.{◌≡◌, ◌≤◌, IfOk, drop, length};
 ghost use Rattle.std.specs.Str.{bytes_eq};
@@ -7,12 +7,13 @@ ghost use Rattle.c_meaning.specs.BlockRows.{all_traps, g_error, trap_named};
 ghost use Rattle.c_meaning.specs.Texts.{behind_line, text_of};
 ghost use Rattle.c_texts.specs.Answers.{Answers, InRuns};
 ghost use Rattle.glib_model.specs.Ends.{IsRow};
-ghost use Rattle.glib_model.specs.Outside.{IsLine};
+ghost use Rattle.glib_model.specs.Outside.{IsLine, IsQuark};
 
 use crate::arguments::one;
 use crate::ends::{LibEnd, LibWhat, quiet, refused, undefined, value};
 use crate::kinds::Kinds;
 use crate::making::give_text;
+use crate::quarks::Quarks;
 use c_meaning::Cell;
 use c_texts::{before_zero, behind_line, line_of, text_of};
 use cell_heap::CellHeap;
@@ -109,4 +110,25 @@ pub fn vala_rt_read_line(
     }
     *at = line_end(input, start);
     give_text(alloc, heap, before_zero(line_of(&input[start..])))
+}
+
+/// The number of a text among the quarks, counted from 1.
+pub fn g_quark_from_static_string(
+    alloc: Global,
+    heap: &CellHeap,
+    args: &[Cell],
+    quarks: &mut Quarks,
+) -> Result<LibEnd, Memory>
+    ensures { IfOk result (IsQuark quarks.old quarks.new args.now heap.now) }
+{
+    let Some(cell) = one(args) else {
+        return Ok(undefined(alloc, UndefKind::Kind));
+    };
+    match text_of(alloc, heap, cell) {
+        Ok(text) => {
+            let number = quarks.add(text)?;
+            Ok(value(alloc, Cell::Uns(number)))
+        }
+        Err(fault) => refused(alloc, fault),
+    }
 }

@@ -22,8 +22,8 @@ pub struct ErrorParts {
     pub message: Vec<u8>,
 }
 
-// The cell of a block at a place.
-fn part(heap: &CellHeap, block: u64, at: u64) -> Result<Cell, UndefKind>
+/// The cell of a block at a place.
+pub fn part(heap: &CellHeap, block: u64, at: u64) -> Result<Cell, UndefKind>
     ensures { InRuns heap.now (λ s. result ≡ get s (place block at)) }
 {
     if heap.length(block).is_none() {

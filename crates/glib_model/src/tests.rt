@@ -1,6 +1,9 @@
 // Functions of the library, one after another.
 
-use crate::{Kinds, LibEnd, LibWhat, g_free, g_str_has_suffix, g_strdup, strlen};
+use crate::{
+    Kinds, LibEnd, LibWhat, Quarks, g_free, g_quark_from_static_string, g_str_has_suffix, g_strdup,
+    strlen,
+};
 use c_meaning::Cell;
 use c_texts::push_text;
 use cell_heap::CellHeap;
@@ -53,5 +56,32 @@ fn texts_are_copied_and_freed(rt: HostRuntime) -> Result<(), Fail> {
     let part = Cell::Ptr { block, at: 2 };
     let ends = g_str_has_suffix(alloc, &heap, &kinds, &[text, part])?;
     assert!(rt; matches!(ends.what, LibWhat::Value(Cell::Int(1))));
+    Ok(())
+}
+
+// A text in a block of its own, and a pointer to it.
+fn text_in(heap: &mut CellHeap, cells: &mut Vec<Cell>, bytes: &[u8]) -> Result<Cell, Fail> {
+    cells.clear();
+    push_text(cells, bytes)?;
+    let block = heap.make(cells.len() as u64)?;
+    heap.set_cells(block, 0, cells.as_slice());
+    Ok(Cell::Ptr { block, at: 0 })
+}
+
+#[test]
+fn quarks_are_counted_from_one(rt: HostRuntime) -> Result<(), Fail> {
+    let alloc = rt.alloc();
+    let mut heap = CellHeap::new(alloc);
+    let mut cells = Vec::new(alloc);
+    let mut quarks = Quarks::new(alloc);
+    let first = text_in(&mut heap, &mut cells, b"first".as_slice())?;
+    let other = text_in(&mut heap, &mut cells, b"other".as_slice())?;
+    let again = text_in(&mut heap, &mut cells, b"first".as_slice())?;
+    let number = g_quark_from_static_string(alloc, &heap, &[first], &mut quarks)?;
+    assert!(rt; gives_number(&number, 1));
+    let number = g_quark_from_static_string(alloc, &heap, &[other], &mut quarks)?;
+    assert!(rt; gives_number(&number, 2));
+    let number = g_quark_from_static_string(alloc, &heap, &[again], &mut quarks)?;
+    assert!(rt; gives_number(&number, 1));
     Ok(())
 }
