@@ -4,3 +4,4 @@ pub mod Resolved
 pub mod Statements
 pub mod Machine
 pub mod Laws
+pub mod Values

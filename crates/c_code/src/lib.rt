@@ -4,6 +4,7 @@
 mod code;
 mod laws;
 mod program;
+mod value;
 
 pub use code::{Alternative, Code, Move, Operation, Sign, Start};
 pub use laws::{code_means_the_same, heaps_are_seen, steps_are_the_same};
@@ -11,3 +12,4 @@ pub use program::{
     Body, Call, Callee, Case, Figure, LibraryFunction, Routine, Sliced, Statement, Taken,
     TypeArgument,
 };
+pub use value::{Place, Value};
