@@ -39,7 +39,7 @@ pub on_number : (s : State.State) (n : ℕ) (go : ℕ → State.State) (r : Answ
 on_number s n go (Ok f) is = ap go (let same : f.number ≡ n = cc in same)
 on_number s n go (Err u) is = cc
 
-on_none : (s : State.State) (u : UndefKind) (go : Found → State.State) (r : Answer Found) → Err u ≡ numbered r → on s r go ≡ undefined s u
+pub on_none : (s : State.State) (u : UndefKind) (go : Found → State.State) (r : Answer Found) → Err u ≡ numbered r → on s r go ≡ undefined s u
 on_none s u go (Ok f) is = cc
 on_none s u go (Err v) is = ap (undefined s) (let same : v ≡ u = cc in same)
 

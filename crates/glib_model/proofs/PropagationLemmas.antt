@@ -1,7 +1,6 @@
 -- An error moves to a place.
 use Rattle.std.proofs.Common.{inl, inr, ◌≡◌, ◌∙◌, refl, sym, ap, subst, ℕ, zero, suc, ◌+◌, ◌<◌, ◌≤◌, Bool, true, false, List, [], ◌∷◌, length, map, take, drop, Option, Some, None, Result, Ok, Err, IfOk, arith, cond, nat_le, append-nil}
 use Rattle.std.specs.Prelude.{slice_get}
-use Rattle.std.proofs.lemmas.Bool.Decides.{leb_tells}
 use Rattle.vg_base.specs.declared.event.UndefKind.{UndefKind}
 use Rattle.vg_base.specs.declared.event.UndefKind.TheVariants as undef
 use Rattle.vg_base.specs.declared.event.ThingKind.TheVariants as thing
@@ -88,65 +87,7 @@ set_tells s heap p c old sees is =
     let after : heap_of (set s p c) ≡ heaps.stored heap p.block p.at c = cells_stored s p c ∙ ap (λ h. heaps.stored h p.block p.at c) sees in
     record { run = ap give_nothing (set_is s p c old is ∙ ap (stored s) after); blocks = after }
 
--- 3. Where an error goes
-
-some_within : {A : Type 0} (xs : List A) (n : ℕ) (a : A) → slice_get xs n ≡ Some a → n < length xs
-some_within [] n a is = cc
-some_within (x ∷ xs) zero a is = omega arith
-some_within (x ∷ xs) (suc n) a is = let less = some_within xs n a is in omega arith
-
-one_fits : (cells : List Cell) (at : ℕ) (c : Cell) → cell_of (slice_get cells at) ≡ Ok c → nat_le (at + 1) (length cells) ≡ true
-one_fits cells at c is = by (slice_get cells at) refl is
-  where
-    by : (o : Option Cell) → slice_get cells at ≡ o → cell_of o ≡ Ok c → nat_le (at + 1) (length cells) ≡ true
-    by None there k = cc
-    by (Some x) there k =
-        let less : at < length cells = some_within cells at x there in
-        elim (leb_tells (at + 1) (length cells)) [ inl short ↦ short.0 | inr long ↦ absurd (let lt : length cells < at + 1 = long.1 in omega arith) ]
-
-none_fits : (cells : List Cell) (at : ℕ) (u : UndefKind) → cell_of (slice_get cells at) ≡ Err u → (nat_le (at + 1) (length cells) ≡ false) × (u ≡ undef.Outside)
-none_fits cells at u is = by (slice_get cells at) refl is
-  where
-    none_past : (xs : List Cell) (n : ℕ) → slice_get xs n ≡ None → length xs ≤ n
-    none_past [] n none = omega arith
-    none_past (x ∷ xs) zero none = cc
-    none_past (x ∷ xs) (suc n) none = let le = none_past xs n none in omega arith
-
-    by : (o : Option Cell) → slice_get cells at ≡ o → cell_of o ≡ Err u → (nat_le (at + 1) (length cells) ≡ false) × (u ≡ undef.Outside)
-    by (Some x) there k = cc
-    by None there k =
-        let past : length cells ≤ at = none_past cells at there in
-        (
-          elim (leb_tells (at + 1) (length cells)) [ inl short ↦ absurd (let le : at + 1 ≤ length cells = short.1 in omega arith) | inr long ↦ long.0 ],
-          (let same : u ≡ undef.Outside = cc in same),
-        )
-
-abbrev goes : ℕ → ℕ → Answer Block → Answer Block → Answer Place
-goes b at r q = bind (bind r (λ x. Ok (place b at))) (λ p. bind (reads p q) (λ old. Ok p))
-
-ok_goes : (s : State.State) (b at : ℕ) (c : Cell) (r : Answer Block) → block_of s b ≡ r → bind r (λ x. cell_of (slice_get x.cells at)) ≡ Ok c → goes b at r (block_of s b) ≡ Ok (place b at)
-ok_goes s b at c (Err u) there is = cc
-ok_goes s b at c (Ok x) there is =
-    ap (λ q. bind (reads (place b at) q) (λ old. Ok (place b at))) there
-    ∙ ap (λ fits. bind (cond fits (let r : Answer (List Cell) = Ok (take 1 (drop at x.cells)) in r) (Err undef.Outside)) (λ old. Ok (place b at))) (one_fits x.cells at c is)
-
-err_goes : (s : State.State) (b at : ℕ) (u : UndefKind) (r : Answer Block) → block_of s b ≡ r → bind r (λ x. cell_of (slice_get x.cells at)) ≡ Err u → goes b at r (block_of s b) ≡ Err u
-err_goes s b at u (Err v) there is = ap (λ k. let a : Answer Place = Err k in a) (let same : v ≡ u = cc in same)
-err_goes s b at u (Ok x) there is =
-    let none = none_fits x.cells at u is in
-    ap (λ q. bind (reads (place b at) q) (λ old. Ok (place b at))) there
-    ∙ ap (λ fits. bind (cond fits (let r : Answer (List Cell) = Ok (take 1 (drop at x.cells)) in r) (Err undef.Outside)) (λ old. Ok (place b at))) none.0
-    ∙ ap (λ k. let a : Answer Place = Err k in a) (sym none.1)
-
--- a cell at a place
-pub there_is : (s : State.State) (b at : ℕ) (c : Cell) → Ok c ≡ get s (place b at) → Ok (place b at) ≡ destination s (Ptr b at)
-there_is s b at c is = sym (ok_goes s b at c (block_of s b) refl (sym is))
-
--- or none
-pub there_is_none : (s : State.State) (b at : ℕ) (u : UndefKind) → Err u ≡ get s (place b at) → Err u ≡ destination s (Ptr b at)
-there_is_none s b at u is = sym (err_goes s b at u (block_of s b) refl (sym is))
-
--- 4. The row
+-- 3. The row
 
 abbrev pub moves : Cell → State.State → Place → State.State
 moves e s p = on s (thing_of s thing.Error e) (λ f. give_nothing (set s p e))

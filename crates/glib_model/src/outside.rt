@@ -100,12 +100,11 @@ pub fn vala_rt_read_line(
     input: &[u8],
     at: &mut usize,
 ) -> Result<LibEnd, Memory>
-    requires { at.old ≤ length input.now }
-    ensures within { at.new ≤ length input.now }
+    ensures within { at.old ≤ length input.now → at.new ≤ length input.now }
     ensures line { IfOk result (IsLine (drop at.old input.now) (drop at.new input.now) args.now heap.old kinds.now heap.new) }
 {
     let start = *at;
-    if start == input.len() {
+    if start >= input.len() {
         return Ok(value(alloc, Cell::Null));
     }
     *at = line_end(input, start);

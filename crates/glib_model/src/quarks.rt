@@ -1,6 +1,6 @@
 // The texts that were made quarks.
 
-ghost use Rattle.std.specs.Prelude.{◌≡◌, ◌^◌, ◌%◌, IfOk, OnOk};
+ghost use Rattle.std.specs.Prelude.{◌≡◌, ◌++◌, ◌^◌, ◌%◌, [], ◌∷◌, IfOk, OnOk};
 ghost use Rattle.c_meaning.specs.BlockRows.{quark_in, with_quark};
 
 use std::alloc::Global;
@@ -19,6 +19,17 @@ impl Model for Quarks {
     ghost Value = { List (List ℕ) };
 
     ghost view = { λ quarks. map (λ text. text.items) quarks.texts.items };
+}
+
+// One more text stands last.
+fn push_text(texts: &mut Vec<Vec<u8>>, text: Vec<u8>) -> Result<(), Memory>
+    ensures { OnOk result (texts.new.items ≡ texts.old.items ++ text ∷ []) }
+{
+    if texts.push(text).is_err() {
+        Err(Memory)
+    } else {
+        Ok(())
+    }
 }
 
 impl Quarks {
@@ -49,9 +60,10 @@ impl Quarks {
         ensures added { OnOk result (self.new ≡ with_quark self.old text.items) }
     {
         let place = self.place(text.as_slice());
-        if place > self.texts.len() as u64 && self.texts.push(text).is_err() {
-            return Err(Memory);
+        if place <= self.texts.len() as u64 {
+            return Ok(place % (1 << 32));
         }
+        push_text(&mut self.texts, text)?;
         Ok(place % (1 << 32))
     }
 }
