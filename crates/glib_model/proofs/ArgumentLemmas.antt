@@ -1,5 +1,5 @@
 -- Arguments by their number.
-use Rattle.std.proofs.Common.{◌≡◌, ◌∙◌, refl, sym, ap, suc, ◌-◌, ◌<◌, ◌≤◌, take, drop, List, [], ◌∷◌, length, get_or, Some, None, arith}
+use Rattle.std.proofs.Common.{◌≡◌, ◌∙◌, sym, ap, suc, ◌-◌, ◌<◌, ◌≤◌, take, drop, List, [], ◌∷◌, length, get_or, Some, arith}
 use Rattle.std.proofs.lemmas.List.{take_all}
 use Rattle.c_meaning.specs.declared.cell.Cell.{Cell}
 use Rattle.glib_model.specs.Arguments.{one_of, two_of, three_of}

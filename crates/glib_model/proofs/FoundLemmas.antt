@@ -1,17 +1,13 @@
 -- The block that a pointer leads to.
-use Rattle.std.proofs.Common.{◌≡◌, ◌∙◌, refl, sym, ap, ℕ, zero, suc, Bool, true, false, ◌||◌, List, Option, Some, None, Ok, Err}
-use Rattle.vg_base.specs.declared.event.UndefKind.{UndefKind}
+use Rattle.std.proofs.Common.{◌≡◌, ◌∙◌, refl, sym, ap, ℕ, zero, suc, Ok, Err}
 use Rattle.vg_base.specs.declared.event.UndefKind.TheVariants as undef
-use Rattle.vg_base.specs.declared.event.ThingKind.{ThingKind}
-use Rattle.vg_base.specs.declared.event.ThingKind.TheVariants as thing
 use Rattle.c_meaning.specs.declared.cell.Cell.{Cell}
 use Rattle.c_meaning.specs.declared.cell.Cell.TheVariants.{Int, Uns, Ptr, Func, Null, Unset}
 use Rattle.c_meaning.specs.State
 use Rattle.c_meaning.specs.State.{Block, Thing}
 use Rattle.c_meaning.specs.Blocks.{Answer, bind, block_of}
-use Rattle.c_meaning.specs.BlockRows.{Found, found, at_start, is_thing, where_it_is, is_freed_by_g_free}
-use Rattle.glib_model.specs.declared.kinds.Mark.{Mark}
-use Rattle.glib_model.specs.Kinds.{mark_at, mark_by, mark_of, is_marked, is_marked_sliced, numbered}
+use Rattle.c_meaning.specs.BlockRows.{Found, found, at_start}
+use Rattle.glib_model.specs.Kinds.{numbered}
 
 pub record IsFound (s : State.State) (c : Cell) (n : ℕ) : Type 0 where
   pub what : Found

@@ -1,5 +1,5 @@
 -- An error moves to a place.
-use Rattle.std.proofs.Common.{inl, inr, ◌≡◌, ◌∙◌, refl, sym, ap, subst, ℕ, zero, suc, ◌+◌, ◌<◌, ◌≤◌, Bool, true, false, List, [], ◌∷◌, length, map, take, drop, Option, Some, None, Result, Ok, Err, IfOk, arith, cond, nat_le, append-nil}
+use Rattle.std.proofs.Common.{◌≡◌, ◌∙◌, refl, sym, ap, subst, ℕ, zero, suc, ◌+◌, Bool, true, false, List, [], ◌∷◌, length, map, take, drop, Option, Some, Result, Ok, Err, IfOk, cond, nat_le, append-nil}
 use Rattle.std.specs.Prelude.{slice_get}
 use Rattle.vg_base.specs.declared.event.UndefKind.{UndefKind}
 use Rattle.vg_base.specs.declared.event.UndefKind.TheVariants as undef
@@ -12,7 +12,7 @@ use Rattle.c_meaning.specs.Blocks as meaning
 use Rattle.c_meaning.specs.Blocks.{Answer, bind, on, block_at, block_of, live_block, cell_of, get, get_cells, set, over, put_at, undefined, free}
 use Rattle.c_meaning.specs.Numbers.{pointed}
 use Rattle.c_meaning.specs.Texts.{give_nothing}
-use Rattle.c_meaning.specs.BlockRows.{TypeArgument, Found, thing_of, g_propagate_error, g_error_free}
+use Rattle.c_meaning.specs.BlockRows.{TypeArgument, thing_of, g_propagate_error, g_error_free}
 use Rattle.cell_heap.specs.Heap as heaps
 use Rattle.cell_heap.specs.States.{seen, heap_of}
 use Rattle.cell_heap.proofs.StateLaws.{cells_stored, live_is, seen_cells}
@@ -20,7 +20,7 @@ use Rattle.glib_model.specs.declared.kinds.Mark.{Mark}
 use Rattle.glib_model.specs.declared.ends.LibEnd.{LibEnd}
 use Rattle.glib_model.specs.declared.ends.LibWhat.TheVariants as what
 use Rattle.glib_model.specs.Kinds.{Sees, numbered}
-use Rattle.glib_model.specs.Errors.{place, destination}
+use Rattle.glib_model.specs.Errors.{destination}
 use Rattle.glib_model.specs.Ends.{Tells, IsRow, with_cells, refreshed, stored}
 use Rattle.glib_model.proofs.Telling.{same_cells, refreshed_same, with_blocks}
 use Rattle.glib_model.proofs.BlockLemmas.{on_number, on_none}

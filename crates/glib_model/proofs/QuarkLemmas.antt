@@ -99,8 +99,8 @@ module _ (args : List Cell) (cell : Cell) (asked : Result (Vec ℕ Global) (Faul
   quark_ok before after text n answer is number added now = λ s t sees same.
       quiet_along (record s { quarks = after }) (g_quark_from_static_string s t args) heap (what.Value (Uns n)) answer sees
       (
-        ap (g_quark_from_static_string s t) given ∙ ap (λ r. on s r (gives s)) (asked_is s (Ok text) is sees)
-        ∙ ap (λ q. give (record s { quarks = with_quark q text.items }) (Uns (quark_in 1 q text.items % 2 ^ 32))) same
-        ∙ ap (λ q. give (record s { quarks = q }) (Uns (quark_in 1 before text.items % 2 ^ 32))) (sym added)
-        ∙ ap (λ k. give (record s { quarks = after }) (Uns k)) (sym number)
+      ap (g_quark_from_static_string s t) given ∙ ap (λ r. on s r (gives s)) (asked_is s (Ok text) is sees)
+      ∙ ap (λ q. give (record s { quarks = with_quark q text.items }) (Uns (quark_in 1 q text.items % 2 ^ 32))) same
+      ∙ ap (λ q. give (record s { quarks = q }) (Uns (quark_in 1 before text.items % 2 ^ 32))) (sym added)
+      ∙ ap (λ k. give (record s { quarks = after }) (Uns k)) (sym number)
       ) now

@@ -1,5 +1,5 @@
 -- How rows go on with what is asked of the run.
-use Rattle.std.proofs.Common.{◌≡◌, ◌∙◌, sym, ap, subst, List, [], ◌∷◌, length, get_or, Option, Result, Ok, Err, IfOk, arith}
+use Rattle.std.proofs.Common.{◌≡◌, ◌∙◌, sym, ap, subst, List, [], Option, Result, Ok, Err, IfOk}
 use Rattle.vg_base.specs.declared.event.UndefKind.{UndefKind}
 use Rattle.vg_base.specs.declared.event.UndefKind.TheVariants as undef
 use Rattle.vg_base.specs.declared.event.Fault.{Fault}

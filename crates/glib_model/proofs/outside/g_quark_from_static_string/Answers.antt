@@ -1,5 +1,5 @@
 -- The number of the text is given.
-use Rattle.std.proofs.Common.{◌≡◌, ◌∙◌, refl, sym, ap, List, [], ◌∷◌, None}
+use Rattle.std.proofs.Common.{◌≡◌, ◌∙◌, refl, sym, List, [], ◌∷◌, None}
 use Rattle.c_meaning.specs.declared.cell.Cell.{Cell}
 use Rattle.c_meaning.specs.State
 use Rattle.c_meaning.specs.BlockRows.{TypeArgument, stuck, g_quark_from_static_string}

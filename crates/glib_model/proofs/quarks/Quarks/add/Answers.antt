@@ -1,5 +1,5 @@
 -- The text is known, or it stands last.
-use Rattle.std.proofs.Common.{◌≡◌, ◌∙◌, sym, ap, ℕ, Vec, Global, List, [], ◌∷◌, ◌++◌, length, map, arith}
+use Rattle.std.proofs.Common.{◌≡◌, ◌∙◌, sym, ap, ℕ, Vec, Global, [], ◌∷◌, ◌++◌, length, map, arith}
 use Rattle.std.proofs.lemmas.List.{map-append, length-map}
 use Rattle.c_meaning.specs.BlockRows.{quark_in}
 use Rattle.glib_model.proofs.QuarkLemmas.{quark_known, quark_new}
