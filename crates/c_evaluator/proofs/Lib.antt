@@ -1,0 +1,4 @@
+mod CodeLaws
+mod FaultLaws
+mod RowLaws
+mod TurnLaws
