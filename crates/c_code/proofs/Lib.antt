@@ -8,3 +8,5 @@ pub mod Library
 pub mod Calls
 pub mod Performed
 pub mod Stepped
+pub mod Moves
+pub mod Steady

@@ -5,3 +5,4 @@ pub mod Statements
 pub mod Machine
 pub mod Laws
 pub mod Values
+pub mod Steady
