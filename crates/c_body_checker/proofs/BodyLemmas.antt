@@ -1,5 +1,5 @@
 -- What is known of statements, one level after another, and of declarations.
-use Rattle.std.proofs.Common.{if◌then◌else◌, ◌≡◌, ◌∙◌, refl, sym, ap, ℕ, ◌+◌, ◌<◌, length, get_or, take, drop, map, List, [], ◌∷◌, ◌++◌, append_assoc, append-nil, Option, Some, None}
+use Rattle.std.proofs.Common.{if◌then◌else◌, ◌≡◌, ◌∙◌, refl, sym, ap, ℕ, ◌+◌, ◌<◌, length, get_or, drop, map, reverse, List, [], ◌∷◌, ◌++◌, append_assoc, append-nil, Option, Some, None}
 use Rattle.std.specs.Option.{option_map}
 use Rattle.c_tree.specs.declared.code.Expr.{Expr}
 use Rattle.c_tree.specs.declared.code.Local.{Local}
@@ -9,7 +9,8 @@ use Rattle.c_tree.specs.declared.code.Stmt.TheOpen.{Stmt-F}
 use Rattle.c_tree.specs.declared.code.Stmt.TheFolds.{fold-roll-Stmt, fold_out-Block, map-Stmt}
 use Rattle.c_tree.specs.declared.code.Block.{Block, out-Block}
 use Rattle.c_tree.specs.declared.kinds.Kind.{Kind}
-use Rattle.c_tree.specs.Env.{Env}
+use Rattle.c_tree.specs.declared.kinds.Sort.TheVariants as sort
+use Rattle.c_tree.specs.Env.{Env, kind_of, opened}
 use Rattle.c_tree.specs.Checks.{Known, checked}
 use Rattle.c_tree.specs.Faults.{fault}
 use Rattle.c_tree.specs.Kinds.{is_void}
@@ -23,10 +24,12 @@ use Rattle.c_value_checker.specs.declared.faults.Findings.{Findings}
 use Rattle.c_tree.specs.Unit.{block_end, label_faults, target_faults}
 use Rattle.c_tree.specs.declared.names.Name.{Name}
 use Rattle.c_body_checker.specs.Bodies.{context, else_body, jump_faults, of_statement, returned, whole_body}
-use Rattle.c_value_checker.specs.Extends.{Extends}
 use Rattle.c_value_checker.specs.Noted.{noted}
+use Rattle.c_value_checker.specs.Seen.{closed, seen}
 use Rattle.c_value_checker.proofs.NotedLemmas.{dropped, noted_append, noted_both}
 use Rattle.c_value_checker.proofs.OperandLemmas.{null_kept}
+use Rattle.c_body_checker.proofs.LabelLemmas.{target_reverse}
+use Rattle.c_value_checker.proofs.ScopeLemmas.{Inside, closed_inside, inside_declared, inside_is, inside_opened}
 
 -- 1. Statements
 
@@ -145,39 +148,27 @@ local_noted ls i l d e f g h is p n =
     ∙ sym (noted_append f (local_faults d l) (locals_faults (with_local d l) (drop (i + 1) ls)))
     ∙ ap (λ r. noted f (locals_faults d r)) (sym (dropped ls i l h is))
 
--- 3. Rows
+-- 3. Scopes
 
-pub extends_not : (a : Environment) → Extends a a
-extends_not a = record { more = []; rows = sym (append-nil a.rows); structs = refl; signatures = refl }
-
-pub extends_both : (a b c : Environment) → Extends a b → Extends b c → Extends a c
-extends_both a b c p q = record {
-  more = p.more ++ q.more;
-  rows = q.rows ∙ ap (λ r. r ++ q.more) p.rows ∙ append_assoc a.rows p.more q.more;
-  structs = q.structs ∙ p.structs;
-  signatures = q.signatures ∙ p.signatures;
-}
-
-pub front : {A : Type 0} (u w : List A) → take (length u) (u ++ w) ≡ u
-front [] w = refl
-front (e ∷ u) w = ap (λ z. e ∷ z) (front u w)
-
-pub back_to : (a b : Environment) → Extends a b → take (length a.rows) b.rows ≡ a.rows
-back_to a b p = ap (take (length a.rows)) p.rows ∙ front a.rows p.more
+-- what is declared in a scope stays there
+pub inside_locals : (env d : Env) (ls : List Local) → Inside env d → Inside env (with_locals d ls)
+inside_locals env d [] p = p
+inside_locals env d (l ∷ ls) p = inside_locals env (with_local d l) ls (inside_declared env d (with_local d l) l.name (sort.Variable (kind_of d l.declared)) p refl)
 
 -- what is closed again is what it was
-pub closed_again : (a b d : Environment) (n : ℕ) → n ≡ length a.rows → Extends a b → d ≡ record b { rows = take n b.rows } → d ≡ a
-closed_again a b d n en p e = e ∙ (λ i. record { rows = (ap (λ m. take m b.rows) en ∙ back_to a b p) i; structs = p.structs i; signatures = p.signatures i })
+pub closed_locals : (e : Environment) (o b d : Env) (ls : List Local) → o ≡ opened (seen e) → b ≡ with_locals o ls → d ≡ closed b → d ≡ seen e
+closed_locals e o b d ls eo eb ed = ed ∙ closed_inside e b (inside_is (seen e) (with_locals o ls) b (inside_locals (seen e) o ls (inside_opened (seen e) o eo)) eb)
 
 -- 4. Bodies
 
-pub jumps_noted : (b : Block) (ls ms ts : List Name) (n : ℕ) (f g h : Findings) → ls ≡ (checked_block checked b).labels → ms ≡ (checked_block checked b).labels
+pub jumps_noted : (b : Block) (ls ms ts : List Name) (n : ℕ) (f g h : Findings) → ls ≡ (checked_block checked b).labels → ms ≡ reverse ls
     → ts ≡ (checked_block checked b).targets → n ≡ block_end b
     → g ≡ noted f (label_faults [] ls) → h ≡ noted g (target_faults ms n ts) → h ≡ noted f (jump_faults b)
 jumps_noted b ls ms ts n f g h el em et en eg eh =
     noted_both f g h (label_faults [] (checked_block checked b).labels)
     (target_faults (checked_block checked b).labels (block_end b) (checked_block checked b).targets)
-    (eg ∙ ap (λ l. noted f (label_faults [] l)) el) (eh ∙ (λ i. noted g (target_faults (em i) (en i) (et i))))
+    (eg ∙ ap (λ l. noted f (label_faults [] l)) el) (eh ∙ (λ i. noted g (target_faults ((em ∙ ap reverse el) i) (en i) (et i)))
+    ∙ ap (noted g) (target_reverse (checked_block checked b).labels (block_end b) (checked_block checked b).targets))
 
 pub body_noted : (env : Env) (r : Option Kind) (b : Block) (f g h : Findings) → g ≡ noted f ((checked_block checked b).faults (context env r))
     → h ≡ noted g (jump_faults b) → h ≡ noted f (whole_body env r b)

@@ -1,9 +1,10 @@
 -- What is known of statements.
-use Rattle.std.specs.Prelude.{if◌then◌else◌, List, [], ◌++◌, Option, Some, None}
+use Rattle.std.specs.Prelude.{ℕ, if◌then◌else◌, map, List, [], ◌++◌, Option, Some, None}
 use Rattle.std.specs.Option.{option_map}
 use Rattle.c_tree.specs.declared.code.Stmt.{Stmt}
 use Rattle.c_tree.specs.declared.code.Block.{Block}
 use Rattle.c_tree.specs.declared.code.Stmt.TheFolds.{fold-Stmt}
+use Rattle.c_tree.specs.declared.names.Name.{Name}
 use Rattle.c_tree.specs.declared.names.Span.{Span}
 use Rattle.c_tree.specs.declared.kinds.Cause.TheVariants.{Misfit}
 use Rattle.c_tree.specs.declared.kinds.Fault.{Fault}
@@ -24,6 +25,10 @@ of_statement = fold-Stmt Body Body (check_stmt checked) check_block
 -- what is known of the block behind `else`
 abbrev pub else_body : Option Block → Option Body
 else_body = option_map (checked_block checked)
+
+-- the labels of a table, the last one first
+abbrev pub labels_of : List (List ℕ × Span) → List Name
+labels_of es = map (λ e. record { text = e.0; span = e.1 }) es
 
 -- what a statement is in
 abbrev pub context : Env → Option Kind → Context

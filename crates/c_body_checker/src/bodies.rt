@@ -2,10 +2,10 @@
 
 ghost use Rattle.std.specs.Prelude.{◌≡◌, IfOk, OnOk};
 ghost use Rattle.c_tree.specs.Checks.{checked};
-ghost use Rattle.c_tree.specs.Rules.{checked_block};
+ghost use Rattle.c_tree.specs.declared.code.Block.{out-Block};
+ghost use Rattle.c_tree.specs.Rules.{checked_block, with_locals};
 ghost use Rattle.c_tree.specs.Unit.{block_end};
 ghost use Rattle.c_body_checker.specs.Bodies.{jump_faults, whole_body};
-ghost use Rattle.c_value_checker.specs.Extends.{Extends};
 ghost use Rattle.c_value_checker.specs.Noted.{noted};
 ghost use Rattle.c_value_checker.specs.Seen.{seen};
 
@@ -40,20 +40,20 @@ fn check_jumps(alloc: Global, findings: &mut Findings, body: &Block) -> Result<(
     ensures { OnOk result (findings.new ≡ noted findings.old (jump_faults body.now)) }
 {
     let found = find_labels(alloc, body)?;
-    check_labels(findings, &found.labels);
-    check_targets(findings, &found.labels, block_end(body), &found.targets);
+    let table = check_labels(alloc, findings, &found.labels)?;
+    check_targets(findings, &table, block_end(body), &found.targets);
     Ok(())
 }
 
 /// The body of a function, in the scope of its parameters. Its names stay.
-pub fn check_body(
+pub fn check_body<'n>(
     alloc: Global,
-    environment: &mut Environment,
+    environment: &mut Environment<'n>,
     findings: &mut Findings,
     gives: Option<Kind>,
-    body: &Block,
+    body: &'n Block,
 ) -> Result<(), Memory>
-    ensures rows { OnOk result (Extends environment.old environment.new) }
+    ensures names { OnOk result (seen environment.new ≡ with_locals (seen environment.old) (out-Block body.now).locals) }
     ensures faults { OnOk result (findings.new ≡ noted findings.old (whole_body (seen environment.old) gives body.now)) }
 {
     check_block(alloc, environment, findings, gives, body)?;

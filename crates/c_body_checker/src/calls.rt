@@ -324,7 +324,7 @@ fn call_unit(
     }
 }
 
-fn signature_of(environment: &Environment, kind: Kind) -> Option<&Takes>
+fn signature_of<'e>(environment: &'e Environment, kind: Kind) -> Option<&'e Takes>
     ensures { option_map takes_seen (option_copied result) ≡ spec.signature_of (seen environment.now) kind }
 {
     match kind.base {

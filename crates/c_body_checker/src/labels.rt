@@ -1,16 +1,17 @@
 // The labels of a function, and what goes to them.
 
-ghost use Rattle.std.specs.Prelude.{◌≡◌, ◌++◌, ◌∷◌, [], map, OnOk, not};
+ghost use Rattle.std.specs.Prelude.{◌≡◌, ◌++◌, ◌∷◌, [], map, IfOk, OnOk, not, reverse};
 ghost use Rattle.c_tree.specs.Checks.{checked};
 ghost use Rattle.c_tree.specs.Rules as spec;
 ghost use Rattle.c_tree.specs.declared.kinds.Cause.TheVariants.{Twice};
 ghost use Rattle.c_tree.specs.Faults.{fault, unless};
 ghost use Rattle.c_tree.specs.Unit.{has_name, label_faults, target_faults};
-ghost use Rattle.c_body_checker.specs.Bodies.{else_body, of_statement};
+ghost use Rattle.c_body_checker.specs.Bodies.{else_body, labels_of, of_statement};
 ghost use Rattle.c_value_checker.specs.Noted.{noted};
 
-use c_tree::{Block, Case, Cause, Name, Stmt};
+use c_tree::{Block, Case, Cause, Name, Span, Stmt};
 use c_value_checker::Findings;
+use name_table::NameTable;
 use sqlite_items::Items;
 use std::alloc::Global;
 use vg_base::Memory;
@@ -110,49 +111,54 @@ fn add_stmts(alloc: Global, found: &mut Labels, stmts: &[Stmt]) -> Result<(), Me
     Ok(())
 }
 
-fn has_name(name: &Name, names: &[Name]) -> bool
-    ensures { result ≡ has_name name.now.text names.now }
+/// Labels by their names, and where each stands.
+pub type Table<'l> = NameTable<'l, Span>;
+
+#[tactic(auto, using(crate::proofs::LabelLemmas::has_latest))]
+fn has_name(table: &Table, name: &Name) -> bool
+    ensures { result ≡ has_name name.now.text (labels_of table.now) }
 {
-    for other in names {
-        if other.text.as_slice() == name.text.as_slice() {
-            return true;
-        }
-    }
-    false
+    table.find(name.text.as_slice()).is_some()
 }
 
 // A label that stands twice.
-fn check_label(findings: &mut Findings, label: &Name, before: &[Name])
-    ensures { findings.new ≡ noted findings.old (unless (not (has_name label.now.text before.now)) (fault Twice label.now.span.start label.now.span.end)) }
+fn check_label(findings: &mut Findings, before: &Table, label: &Name)
+    ensures { findings.new ≡ noted findings.old (unless (not (has_name label.now.text (labels_of before.now))) (fault Twice label.now.span.start label.now.span.end)) }
 {
-    if has_name(label, before) {
+    if has_name(before, label) {
         findings.note(label.span.start, Cause::Twice, label.span.end);
     }
 }
 
-/// Notes labels that stand twice.
-pub fn check_labels(findings: &mut Findings, labels: &[Name])
-    ensures { findings.new ≡ noted findings.old (label_faults [] labels.now) }
+/// Notes labels that stand twice. Gives them all, the last one first.
+pub fn check_labels<'l>(
+    alloc: Global,
+    findings: &mut Findings,
+    labels: &'l [Name],
+) -> Result<Table<'l>, Memory>
+    ensures labels { IfOk result (λ table. labels_of table ≡ reverse labels.now) }
+    ensures faults { OnOk result (findings.new ≡ noted findings.old (label_faults [] labels.now)) }
 {
-    let mut count = 0;
+    let mut table = NameTable::new(alloc);
     for label in labels {
-        check_label(findings, label, &labels[..count]);
-        count += 1;
+        check_label(findings, &table, label);
+        table.push(label.text.as_slice(), label.span)?;
     }
+    Ok(table)
 }
 
 // A label that is nowhere in the function, which is known at its end.
-fn check_target(findings: &mut Findings, labels: &[Name], end: u32, target: &Name)
-    ensures { findings.new ≡ noted findings.old (target_faults labels.now end (target.now ∷ [])) }
+fn check_target(findings: &mut Findings, labels: &Table, end: u32, target: &Name)
+    ensures { findings.new ≡ noted findings.old (target_faults (labels_of labels.now) end (target.now ∷ [])) }
 {
-    if !has_name(target, labels) {
+    if !has_name(labels, target) {
         findings.note(target.span.start, Cause::Undeclared, end);
     }
 }
 
 /// Notes what goes to labels that are nowhere in a function that ends there.
-pub fn check_targets(findings: &mut Findings, labels: &[Name], end: u32, targets: &[Name])
-    ensures { findings.new ≡ noted findings.old (target_faults labels.now end targets.now) }
+pub fn check_targets(findings: &mut Findings, labels: &Table, end: u32, targets: &[Name])
+    ensures { findings.new ≡ noted findings.old (target_faults (labels_of labels.now) end targets.now) }
 {
     for target in targets {
         check_target(findings, labels, end, target);

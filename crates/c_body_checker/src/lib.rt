@@ -10,4 +10,4 @@ mod statements;
 pub use bodies::check_body;
 pub use calls::{Argument, check_fit};
 pub use library::{LibraryRow, RowParameter, present_rows};
-pub use statements::judge;
+pub use statements::{declare_locals, judge};

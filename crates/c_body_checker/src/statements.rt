@@ -3,13 +3,13 @@
 ghost use Rattle.std.specs.Prelude.{◌≡◌, ◌++◌, map, IfOk, OnOk};
 ghost use Rattle.std.specs.Option.{option_map};
 ghost use Rattle.c_tree.specs.Checks as checks;
+ghost use Rattle.c_tree.specs.declared.code.Block.{out-Block};
 ghost use Rattle.c_tree.specs.Env.{kind_of};
 ghost use Rattle.c_tree.specs.Faults.{behind_first};
 ghost use Rattle.c_tree.specs.Kinds as kinds;
 ghost use Rattle.c_tree.specs.Make.{span_of};
 ghost use Rattle.c_tree.specs.Rules as spec;
 ghost use Rattle.c_body_checker.specs.Bodies.{context, else_body, of_statement, returned};
-ghost use Rattle.c_value_checker.specs.Extends.{Extends};
 ghost use Rattle.c_value_checker.specs.Noted.{noted};
 ghost use Rattle.c_body_checker.specs.Rows.{argument};
 ghost use Rattle.c_value_checker.specs.Seen.{seen};
@@ -193,6 +193,26 @@ fn check_return(
     }
 }
 
+fn declare_local<'n>(environment: &mut Environment<'n>, local: &'n Local) -> Result<(), Memory>
+    ensures { OnOk result (seen environment.new ≡ spec.with_local (seen environment.old) local.now) }
+{
+    let kind = environment.kind_of(&local.declared)?;
+    environment.declare(&local.name, Sort::Variable(kind))
+}
+
+/// The names of declarations, in a scope that is open already.
+pub fn declare_locals<'n>(
+    environment: &mut Environment<'n>,
+    locals: &'n [Local],
+) -> Result<(), Memory>
+    ensures { OnOk result (seen environment.new ≡ spec.with_locals (seen environment.old) locals.now) }
+{
+    for local in locals {
+        declare_local(environment, local)?;
+    }
+    Ok(())
+}
+
 // The faults of a declaration, and the kind of what it declares.
 fn judge_local(
     environment: &Environment,
@@ -210,82 +230,77 @@ fn judge_local(
     Ok(kind)
 }
 
-fn check_local(
-    alloc: Global,
-    environment: &mut Environment,
+fn check_local<'n>(
+    environment: &mut Environment<'n>,
     findings: &mut Findings,
-    local: &Local,
+    local: &'n Local,
 ) -> Result<(), Memory>
     ensures names { OnOk result (seen environment.new ≡ spec.with_local (seen environment.old) local.now) }
-    ensures rows { OnOk result (Extends environment.old environment.new) }
     ensures faults { OnOk result (findings.new ≡ noted findings.old (spec.local_faults (seen environment.old) local.now)) }
 {
     let floor = findings.begin(local.declared.span.start);
     let kind = judge_local(environment, findings, local)?;
     findings.floor = floor;
-    environment.declare(alloc, &local.name, Sort::Variable(kind))
+    environment.declare(&local.name, Sort::Variable(kind))
 }
 
-fn check_locals(
-    alloc: Global,
-    environment: &mut Environment,
+fn check_locals<'n>(
+    environment: &mut Environment<'n>,
     findings: &mut Findings,
-    locals: &[Local],
+    locals: &'n [Local],
 ) -> Result<(), Memory>
     ensures names { OnOk result (seen environment.new ≡ spec.with_locals (seen environment.old) locals.now) }
-    ensures rows { OnOk result (Extends environment.old environment.new) }
     ensures faults { OnOk result (findings.new ≡ noted findings.old (spec.locals_faults (seen environment.old) locals.now)) }
 {
     for local in locals {
-        check_local(alloc, environment, findings, local)?;
+        check_local(environment, findings, local)?;
     }
     Ok(())
 }
 
 /// A block in a scope that is open already. Its names stay.
 #[cycle(statement)]
-pub fn check_block(
+pub fn check_block<'n>(
     alloc: Global,
-    environment: &mut Environment,
+    environment: &mut Environment<'n>,
     findings: &mut Findings,
     gives: Option<Kind>,
-    block: &Block,
+    block: &'n Block,
 ) -> Result<(), Memory>
-    ensures rows { OnOk result (Extends environment.old environment.new) }
+    ensures names { OnOk result (seen environment.new ≡ spec.with_locals (seen environment.old) (out-Block block.now).locals) }
     ensures faults { OnOk result (findings.new ≡ noted findings.old ((spec.checked_block checks.checked block.now).faults (context (seen environment.old) gives))) }
 {
-    check_locals(alloc, environment, findings, block.locals.as_slice())?;
+    check_locals(environment, findings, block.locals.as_slice())?;
     check_stmts(alloc, environment, findings, gives, block.body.as_slice())
 }
 
 // A block in a scope of its own.
 #[cycle(statement)]
-fn check_inner(
+fn check_inner<'n>(
     alloc: Global,
-    environment: &mut Environment,
+    environment: &mut Environment<'n>,
     findings: &mut Findings,
     gives: Option<Kind>,
-    block: &Block,
+    block: &'n Block,
 ) -> Result<(), Memory>
-    ensures names { OnOk result (environment.new ≡ environment.old) }
+    ensures names { OnOk result (seen environment.new ≡ seen environment.old) }
     ensures faults { OnOk result (findings.new ≡ noted findings.old (spec.inner (spec.checked_block checks.checked block.now) (context (seen environment.old) gives))) }
 {
-    let count = environment.rows.len();
     environment.open()?;
     check_block(alloc, environment, findings, gives, block)?;
-    environment.close(count);
+    environment.close();
     Ok(())
 }
 
 #[cycle(statement)]
-fn check_else(
+fn check_else<'n>(
     alloc: Global,
-    environment: &mut Environment,
+    environment: &mut Environment<'n>,
     findings: &mut Findings,
     gives: Option<Kind>,
-    block: &Option<Block>,
+    block: &'n Option<Block>,
 ) -> Result<(), Memory>
-    ensures names { OnOk result (environment.new ≡ environment.old) }
+    ensures names { OnOk result (seen environment.new ≡ seen environment.old) }
     ensures faults { OnOk result (findings.new ≡ noted findings.old (spec.else_faults (else_body block.now) (context (seen environment.old) gives))) }
 {
     match block {
@@ -295,14 +310,14 @@ fn check_else(
 }
 
 #[cycle(statement)]
-fn check_stmt(
+fn check_stmt<'n>(
     alloc: Global,
-    environment: &mut Environment,
+    environment: &mut Environment<'n>,
     findings: &mut Findings,
     gives: Option<Kind>,
-    stmt: &Stmt,
+    stmt: &'n Stmt,
 ) -> Result<(), Memory>
-    ensures names { OnOk result (environment.new ≡ environment.old) }
+    ensures names { OnOk result (seen environment.new ≡ seen environment.old) }
     ensures faults { OnOk result (findings.new ≡ noted findings.old ((of_statement stmt.now).faults (context (seen environment.old) gives))) }
 {
     match stmt {
@@ -325,14 +340,14 @@ fn check_stmt(
 }
 
 #[cycle(statement)]
-fn check_stmts(
+fn check_stmts<'n>(
     alloc: Global,
-    environment: &mut Environment,
+    environment: &mut Environment<'n>,
     findings: &mut Findings,
     gives: Option<Kind>,
-    stmts: &[Stmt],
+    stmts: &'n [Stmt],
 ) -> Result<(), Memory>
-    ensures names { OnOk result (environment.new ≡ environment.old) }
+    ensures names { OnOk result (seen environment.new ≡ seen environment.old) }
     ensures faults { OnOk result (findings.new ≡ noted findings.old (spec.all_faults (context (seen environment.old) gives) (map of_statement stmts.now))) }
 {
     for stmt in stmts {

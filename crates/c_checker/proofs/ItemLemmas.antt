@@ -1,9 +1,12 @@
 -- The faults of items, part by part.
-use Rattle.std.proofs.Common.{◌≡◌, ◌∙◌, refl, sym, ap, arith, if◌then◌else◌, nat_le, ℕ, ◌+◌, ◌||◌, not, Bool, true, false, List, [], ◌∷◌, ◌++◌, append_assoc, drop, reverse, take, Option}
+use Rattle.std.proofs.Common.{◌≡◌, ◌∙◌, refl, sym, ap, arith, if◌then◌else◌, nat_le, ℕ, ◌+◌, ◌||◌, is_some, length, not, Bool, true, false, List, [], ◌∷◌, ◌++◌, append_assoc, drop, reverse, take, Option, Some}
 use Rattle.std.specs.Str.{bytes_eq}
 use Rattle.std.proofs.lemmas.List.{reverse-append}
+use Rattle.name_table.specs.declared.found.Found.{Found}
+use Rattle.name_table.specs.Names.{latest}
 use Rattle.c_tree.specs.declared.code.Local.{Local}
 use Rattle.c_tree.specs.declared.kinds.Fault.{Fault}
+use Rattle.c_tree.specs.declared.names.Span.{Span}
 use Rattle.c_tree.specs.declared.unit.Function.{Function as Definition}
 use Rattle.c_tree.specs.declared.unit.Item.TheVariants as item
 use Rattle.c_tree.specs.declared.unit.Signature.{Signature}
@@ -14,6 +17,7 @@ use Rattle.c_tree.specs.Checks.{checked, type_faults}
 use Rattle.c_tree.specs.Rules.{checked_block, fit, not_laid_out}
 use Rattle.c_tree.specs.Unit.{again, body_faults, ends_faults, field_faults, has_field, item_faults, signature_faults, unlaid_parameters, unlaid_result, variable_twice, with_function, with_parameters}
 use Rattle.c_body_checker.specs.Bodies.{whole_body}
+use Rattle.c_checker.specs.Fields.{named}
 use Rattle.c_checker.specs.Functions.{head_faults}
 use Rattle.c_value_checker.specs.declared.faults.Findings.{Findings}
 use Rattle.c_value_checker.specs.Noted.{noted, raised}
@@ -56,37 +60,36 @@ variable_noted env v f g h p q =
 
 -- 3. Fields
 
-or_assoc : (a b d : Bool) → (a || (b || d)) ≡ ((a || b) || d)
-or_assoc true b d = refl
-or_assoc false b d = refl
+some_or : {A : Type 0} (b : Bool) (x : A) (o : Option A) → is_some (if b then Some x else o) ≡ (b || is_some o)
+some_or true x o = refl
+some_or false x o = refl
 
-or_last : (a b : Bool) → (b || (a || false)) ≡ (a || b)
-or_last true true = refl
-or_last true false = refl
-or_last false true = refl
-or_last false false = refl
-
-has_both : (x : List ℕ) (a b : List Local) → has_field x (a ++ b) ≡ (has_field x a || has_field x b)
-has_both x [] b = refl
-has_both x (y ∷ a) b = ap (λ t. bytes_eq y.name.text x || t) (has_both x a b) ∙ or_assoc (bytes_eq y.name.text x) (has_field x a) (has_field x b)
-
--- the order of fields does not matter
-has_reverse : (x : List ℕ) (ys : List Local) → has_field x (reverse ys) ≡ has_field x ys
-has_reverse x [] = refl
-has_reverse x (y ∷ ys) = ap (has_field x) (reverse-append (y ∷ []) ys) ∙ has_both x (reverse ys) (y ∷ [])
-    ∙ ap (λ t. t || (bytes_eq y.name.text x || false)) (has_reverse x ys) ∙ or_last (bytes_eq y.name.text x) (has_field x ys)
+-- a name is among fields where their table finds it
+has_latest : (x : List ℕ) (ls : List Local) → is_some (latest x (named ls)) ≡ has_field x ls
+has_latest x [] = refl
+has_latest x (l ∷ ls) =
+    some_or (bytes_eq l.name.text x) (let f : Found Span = record { meaning = l.name.span; position = length (named ls) } in f) (latest x (named ls))
+    ∙ ap (λ t. bytes_eq l.name.text x || t) (has_latest x ls)
 
 -- one field more
-pub field_turn : (env : Env) (ls : List Local) (i : ℕ) (x : Local) (f g : Findings) → drop i ls ≡ x ∷ drop (i + 1) ls → take (i + 1) ls ≡ take i ls ++ x ∷ []
-    → g ≡ noted f (type_faults env x.declared ++ unless (not (has_field x.name.text (take i ls))) (twice x.name) ++ not_laid_out env (kind_of env x.declared) x.name)
+pub field_turn : (env : Env) (ls : List Local) (i : ℕ) (x : Local) (es : List (List ℕ × Span)) (f g : Findings) → drop i ls ≡ x ∷ drop (i + 1) ls → take (i + 1) ls ≡ take i ls ++ x ∷ []
+    → es ≡ named (reverse (take i ls))
+    → g ≡ noted f (type_faults env x.declared ++ unless (not (is_some (latest x.name.text es))) (twice x.name) ++ not_laid_out env (kind_of env x.declared) x.name)
     → noted g (field_faults env (reverse (take (i + 1) ls)) (drop (i + 1) ls)) ≡ noted f (field_faults env (reverse (take i ls)) (drop i ls))
-field_turn env ls i x f g ed et eg =
+field_turn env ls i x es f g ed et en eg =
     ap (λ b. noted g (field_faults env b (drop (i + 1) ls))) (ap reverse et ∙ reverse-append (take i ls) (x ∷ []))
     ∙ ap (λ z. noted z (field_faults env (x ∷ reverse (take i ls)) (drop (i + 1) ls)))
-    (eg ∙ ap (λ t. noted f (type_faults env x.declared ++ unless (not t) (twice x.name) ++ not_laid_out env (kind_of env x.declared) x.name)) (sym (has_reverse x.name.text (take i ls))))
+    (eg ∙ ap (λ t. noted f (type_faults env x.declared ++ unless (not t) (twice x.name) ++ not_laid_out env (kind_of env x.declared) x.name))
+    (ap (λ t. is_some (latest x.name.text t)) en ∙ has_latest x.name.text (reverse (take i ls))))
     ∙ sym (noted_append f (type_faults env x.declared ++ unless (not (has_field x.name.text (reverse (take i ls)))) (twice x.name) ++ not_laid_out env (kind_of env x.declared) x.name)
     (field_faults env (x ∷ reverse (take i ls)) (drop (i + 1) ls)))
     ∙ ap (λ d. noted f (field_faults env (reverse (take i ls)) d)) (sym ed)
+
+-- the table has it in front
+pub field_kept : (ls : List Local) (i : ℕ) (x : Local) (es ds : List (List ℕ × Span)) → take (i + 1) ls ≡ take i ls ++ x ∷ [] → ds ≡ (x.name.text, x.name.span) ∷ es → es ≡ named (reverse (take i ls))
+    → ds ≡ named (reverse (take (i + 1) ls))
+field_kept ls i x es ds et ed e =
+    ed ∙ ap (λ l. (x.name.text, x.name.span) ∷ l) e ∙ sym (ap named (ap reverse et ∙ reverse-append (take i ls) (x ∷ [])))
 
 -- 4. The whole
 

@@ -1,14 +1,8 @@
 -- The names of the library, the last of them first.
-use Rattle.std.proofs.Common.{◌≡◌, ◌∙◌, refl, sym, ap, arith, map, ℕ, zero, suc, ◌+◌, ◌-◌, false, ◌≤◌, length, get_or, slice_get, take, Some, None, List, [], ◌∷◌, ◌++◌}
+use Rattle.std.proofs.Common.{◌≡◌, ◌∙◌, refl, sym, ap, arith, map, ℕ, zero, suc, ◌+◌, ◌-◌, false, ◌≤◌, length, get_or, take, List, [], ◌∷◌, ◌++◌}
 use Rattle.std.proofs.lemmas.List.{length-map, map-append}
-use Rattle.c_tree.specs.declared.kinds.Sort.{Sort}
 use Rattle.c_tree.specs.declared.kinds.Sort.TheVariants as sort
-use Rattle.c_value_checker.specs.declared.environment.Environment.{Environment}
-use Rattle.c_value_checker.specs.declared.environment.Row.{Row}
-use Rattle.c_value_checker.specs.declared.environment.Row.TheVariants as row
-use Rattle.c_value_checker.specs.Seen.{grown, seen}
-use Rattle.c_value_checker.proofs.ScopeLemmas.{grown_last}
-use Rattle.c_tree.specs.Library.{TypeRow, row_at}
+use Rattle.c_tree.specs.Library.{TypeRow}
 use Rattle.c_tree.specs.Library.{Row as Function}
 use Rattle.c_tree.specs.Env.{Entry, Env, row_entries, with_entry}
 use Rattle.c_tree.specs.declared.kinds.KindBase.TheVariants.{Void}
@@ -44,12 +38,6 @@ ends_at (y ∷ ys) (suc i) d e = ap (λ z. y ∷ z) (ends_at ys i d (omega (arit
 -- a list ends in its last element
 pub ends_in : {A : Type 0} (xs : List A) (d : A) → 1 ≤ length xs → xs ≡ take (length xs - 1) xs ++ get_or xs (length xs - 1) d ∷ []
 ends_in xs d h = ends_at xs (length xs - 1) d (omega (arith, h))
-
--- one name more
-pub name_pushed : (a : Environment) (rs : List Row) (x y : List ℕ) (k : Sort) → rs ≡ a.rows ++ row.Entry y k ∷ [] → y ≡ x
-    → seen (record a { rows = rs }) ≡ record (seen a) { scopes = with_entry (seen a).scopes (record { name = x; sort = k }) }
-name_pushed a rs x y k e ey =
-    ap (λ s. record (seen a) { scopes = s }) (ap (grown []) e ∙ grown_last [] a.rows (row.Entry y k) ∙ ap (λ z. with_entry (grown [] a.rows) (record { name = z; sort = k })) ey)
 
 types_last : (env : Env) (ts : List TypeRow) (t : TypeRow) → with_types env (ts ++ t ∷ []) ≡ with_types (with_types env (t ∷ [])) ts
 types_last env [] t = refl

@@ -19,14 +19,18 @@ kept_step {A} {B} {C} see f all step xs i x ys zs y w is e n given =
     ∙ given
 
 -- the same of what is kept as it is
-pub same_step : {A C : Type 0} (f : A → C) (all : List A → List C) → ((x : A) (l : List A) → all (x ∷ l) ≡ f x ∷ all l) → (xs : List A) (i : ℕ) (x : A) (ys zs : List C) (y : C) (w : List C)
-    → i < length xs → x ≡ get_or xs i x → y ≡ f x → zs ≡ ys ++ y ∷ [] → ys ++ all (drop i xs) ≡ w → zs ++ all (drop (i + 1) xs) ≡ w
-same_step {A} {C} f all step xs i x ys zs y w h is e n given =
+pub place_step : {A C : Type 0} (f : A → C) (all : List A → List C) → ((x : A) (l : List A) → all (x ∷ l) ≡ f x ∷ all l) → (xs : List A) (i : ℕ) (x : A) (ys zs : List C) (y : C) (w : List C)
+    → drop i xs ≡ x ∷ drop (i + 1) xs → y ≡ f x → zs ≡ ys ++ y ∷ [] → ys ++ all (drop i xs) ≡ w → zs ++ all (drop (i + 1) xs) ≡ w
+place_step {A} {C} f all step xs i x ys zs y w is e n given =
     ap (λ z. z ++ all (drop (i + 1) xs)) n
     ∙ append_assoc ys (y ∷ []) (all (drop (i + 1) xs))
     ∙ ap (λ z. ys ++ z ∷ all (drop (i + 1) xs)) e
-    ∙ ap (λ z. ys ++ z) (sym (ap all (dropped xs i x h is) ∙ step x (drop (i + 1) xs)))
+    ∙ ap (λ z. ys ++ z) (sym (ap all is ∙ step x (drop (i + 1) xs)))
     ∙ given
+
+pub same_step : {A C : Type 0} (f : A → C) (all : List A → List C) → ((x : A) (l : List A) → all (x ∷ l) ≡ f x ∷ all l) → (xs : List A) (i : ℕ) (x : A) (ys zs : List C) (y : C) (w : List C)
+    → i < length xs → x ≡ get_or xs i x → y ≡ f x → zs ≡ ys ++ y ∷ [] → ys ++ all (drop i xs) ≡ w → zs ++ all (drop (i + 1) xs) ≡ w
+same_step f all step xs i x ys zs y w h is e n given = place_step f all step xs i x ys zs y w (dropped xs i x h is) e n given
 
 -- one more declares
 pub names_step : {A : Type 0} (behind : Env → A → Env) (all : Env → List A → Env) → ((d : Env) (x : A) (l : List A) → all d (x ∷ l) ≡ all (behind d x) l) → (xs : List A) (i : ℕ) (x : A) (d e z : Env)

@@ -1,6 +1,5 @@
 -- Structs and signatures, as the tables keep them.
-use Rattle.std.proofs.Common.{◌≡◌, ◌∙◌, refl, sym, ap, arith, ℕ, zero, suc, ◌+◌, ◌-◌, ◌^◌, min, ◌<◌, ◌≤◌, ◌==◌, ◌&&◌, nat_lt, Bool, true, false, if◌then◌else◌, length, get_or, set, slice_get, drop, map, List, [], ◌∷◌, ◌++◌, Option, Some, None}
-use Rattle.std.specs.Str.{bytes_eq}
+use Rattle.std.proofs.Common.{◌≡◌, ◌∙◌, refl, sym, ap, arith, ℕ, zero, suc, ◌+◌, ◌-◌, ◌^◌, min, ◌<◌, ◌≤◌, ◌==◌, ◌&&◌, nat_lt, Bool, true, false, if◌then◌else◌, length, get_or, slice_get, drop, map, List, [], ◌∷◌, ◌++◌, Option, Some, None}
 use Rattle.std.proofs.lemmas.List.{drop_all, length-drop, length-map, map-append}
 use Rattle.c_tree.specs.declared.names.Name.{Name}
 use Rattle.c_tree.specs.declared.kinds.Kind.{Kind}
@@ -8,60 +7,24 @@ use Rattle.c_tree.specs.declared.kinds.KindBase.TheVariants.{Struct}
 use Rattle.c_tree.specs.declared.kinds.Sort.TheVariants as sort
 use Rattle.c_tree.specs.Kinds.{plain, same_known, same_list}
 use Rattle.c_tree.specs.Library as rule
-use Rattle.c_tree.specs.Env.{Env, declare, number_of, same_takes, signature_number, structure_named, with_signature}
-use Rattle.c_tree.specs.Unit.{new_struct, with_fields}
+use Rattle.c_tree.specs.Env.{Env, declare, number_of, same_takes, signature_number, with_signature}
+use Rattle.c_tree.specs.Unit.{new_struct}
 use Rattle.c_value_checker.specs.declared.environment.Environment.{Environment}
-use Rattle.c_value_checker.specs.declared.environment.Structure.{Structure}
 use Rattle.c_value_checker.specs.declared.environment.Takes.{Takes}
-use Rattle.c_value_checker.specs.Seen.{seen, structure_seen, takes_seen}
+use Rattle.c_value_checker.specs.Seen.{seen, takes_seen}
 use Rattle.c_value_checker.proofs.NotedLemmas.{dropped}
 use Rattle.c_body_checker.proofs.CallLemmas.{got_none, got_some}
 
 -- 1. Structs
 
 -- one more struct
-pub struct_declared : (a : Environment) (d : Env) (x : Name) (n : ℕ) (ss : List Structure) (s : Structure) → ss ≡ a.structs ++ s ∷ [] → structure_seen s ≡ record { name = x.text; fields = None; cells = 0 } → n ≡ length a.structs
-    → d ≡ declare (seen (record a { structs = ss })) x (sort.Type (plain (Struct n))) → d ≡ new_struct (seen a) x
-struct_declared a d x n ss s es e en ed =
-    ed ∙ (λ i. declare (record (seen a) { structs = (ap (map structure_seen) es ∙ map-append structure_seen a.structs (s ∷ []) ∙ ap (λ z. map structure_seen a.structs ++ z ∷ []) e) i }) x
-    (sort.Type (plain (Struct ((en ∙ sym (length-map a.structs structure_seen)) i)))))
-
-named_if : (b : Bool) (n : ℕ) (o : Option ℕ) → b ≡ false → (if b then Some n else o) ≡ o
-named_if true n o e = absurd (let x : ⊥ = cc in x)
-named_if false n o e = refl
-
-named_here : (b : Bool) (n : ℕ) (o : Option ℕ) → b ≡ true → (if b then Some n else o) ≡ Some n
-named_here true n o e = refl
-named_here false n o e = absurd (let x : ⊥ = cc in x)
-
--- a struct of another name
-pub struct_turn : (ss : List Structure) (x : List ℕ) (i : ℕ) (s : Structure) (n m : ℕ) → i < length ss → s ≡ get_or ss i s → bytes_eq s.name x ≡ false → m ≡ n + 1
-    → structure_named m (map structure_seen (drop (i + 1) ss)) x ≡ structure_named n (map structure_seen (drop i ss)) x
-struct_turn ss x i s n m h is e em =
-    ap (λ k. structure_named k (map structure_seen (drop (i + 1) ss)) x) (em ∙ (let p : n + 1 ≡ suc n = omega arith in p))
-    ∙ sym (ap (λ r. structure_named n (map structure_seen r) x) (dropped ss i s h is) ∙ named_if (bytes_eq s.name x) n (structure_named (suc n) (map structure_seen (drop (i + 1) ss)) x) e)
-
--- a struct of that name
-pub struct_found : (ss : List Structure) (x : List ℕ) (i : ℕ) (s : Structure) (n : ℕ) → i < length ss → s ≡ get_or ss i s → bytes_eq s.name x ≡ true → Some n ≡ structure_named n (map structure_seen (drop i ss)) x
-struct_found ss x i s n h is e =
-    sym (ap (λ r. structure_named n (map structure_seen r) x) (dropped ss i s h is) ∙ named_here (bytes_eq s.name x) n (structure_named (suc n) (map structure_seen (drop (i + 1) ss)) x) e)
+pub struct_declared : (e d : Env) (x : Name) (n : ℕ) (ss : List rule.Structure) → ss ≡ e.structs ++ record { name = x.text; fields = None; cells = 0 } ∷ [] → n ≡ length e.structs
+    → d ≡ declare (record e { structs = ss }) x (sort.Type (plain (Struct n))) → d ≡ new_struct e x
+struct_declared e d x n ss es en ed = ed ∙ (λ i. declare (record e { structs = es i }) x (sort.Type (plain (Struct (en i)))))
 
 -- the cells of one more field
 pub more_cells : (a b r c s : ℕ) → min (a + (b + r)) (2 ^ 62) ≡ s → c ≡ min (a + b) (2 ^ 64 - 1) → min (c + r) (2 ^ 62) ≡ s
 more_cells a b r c s e ec = omega arith
-
--- no struct gets the fields
-pub fields_nowhere : (ss : List Structure) (n : ℕ) (fs : List rule.Field) (m : ℕ) → slice_get ss n ≡ None → map structure_seen ss ≡ with_fields (map structure_seen ss) n fs m
-fields_nowhere [] n fs m e = refl
-fields_nowhere (s ∷ ss) zero fs m e = absurd (let x : ⊥ = cc in x)
-fields_nowhere (s ∷ ss) (suc n) fs m e = ap (λ z. structure_seen s ∷ z) (fields_nowhere ss n fs m e)
-
--- a struct gets them
-pub fields_there : (ss : List Structure) (n : ℕ) (s t : Structure) (fs : List rule.Field) (m : ℕ) → slice_get ss n ≡ Some s → structure_seen t ≡ record (structure_seen s) { fields = Some fs; cells = m }
-    → map structure_seen (set ss n t) ≡ with_fields (map structure_seen ss) n fs m
-fields_there [] n s t fs m e et = absurd (let x : ⊥ = cc in x)
-fields_there (r ∷ ss) zero s t fs m e et = ap (λ z. z ∷ map structure_seen ss) (et ∙ ap (λ (z : Structure). record (structure_seen z) { fields = Some fs; cells = m }) (let q : s ≡ r = cc in q))
-fields_there (r ∷ ss) (suc n) s t fs m e et = ap (λ z. structure_seen r ∷ z) (fields_there ss n s t fs m e et)
 
 -- 2. Lists of kinds
 

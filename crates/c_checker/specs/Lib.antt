@@ -1,2 +1,4 @@
+pub mod Behind
+pub mod Fields
 pub mod Functions
 pub mod Tables

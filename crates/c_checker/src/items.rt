@@ -25,7 +25,6 @@ use c_tree::{
     StaticVariable,
 };
 use c_value_checker::{Environment, Findings};
-use sqlite_items::Items;
 use std::alloc::Global;
 use vg_base::Memory;
 
@@ -101,97 +100,88 @@ fn judge_variable(
     Ok(kind)
 }
 
-fn check_variable(
+fn check_variable<'n>(
     alloc: Global,
-    environment: &mut Environment,
+    environment: &mut Environment<'n>,
     findings: &mut Findings,
-    variable: &StaticVariable,
+    variable: &'n StaticVariable,
 ) -> Result<(), Memory>
     ensures names { OnOk result (seen environment.new ≡ spec.with_item (seen environment.old) (item.Variable variable.now)) }
     ensures faults { OnOk result (findings.new ≡ noted findings.old (spec.item_faults checked (checked_block checked) (seen environment.old) (item.Variable variable.now))) }
 {
     let kind = judge_variable(environment, findings, variable)?;
     check_initial(alloc, environment, findings, kind, &variable.value)?;
-    environment.declare(alloc, &variable.name, Sort::Variable(kind))
+    environment.declare(&variable.name, Sort::Variable(kind))
 }
 
 // 3. Tables of interfaces
 
 // What the type of a table means.
-fn table_kind(alloc: Global, environment: &Environment) -> Result<Option<Kind>, Memory>
-    ensures { IfOk result (λ kind. kind ≡ spec.kind_named (seen environment.now) (codes "GInterfaceInfo")) }
+fn table_kind(environment: &Environment) -> Option<Kind>
+    ensures { result ≡ spec.kind_named (seen environment.now) (codes "GInterfaceInfo") }
 {
-    let Ok(text) = Items::from_slice(alloc, b"GInterfaceInfo") else {
-        return Err(Memory);
-    };
-    let name = Name {
-        text,
-        span: Span { start: 0, end: 0 },
-    };
-    match environment.find(&name) {
-        Some(Sort::Type(kind)) => Ok(Some(kind)),
-        _ => Ok(None),
+    match environment.find_text(b"GInterfaceInfo") {
+        Some(Sort::Type(kind)) => Some(kind),
+        _ => None,
     }
 }
 
-fn check_table(
-    alloc: Global,
-    environment: &mut Environment,
+fn check_table<'n>(
+    environment: &mut Environment<'n>,
     findings: &mut Findings,
-    table: &InterfaceTable,
+    table: &'n InterfaceTable,
 ) -> Result<(), Memory>
     ensures names { OnOk result (seen environment.new ≡ spec.with_item (seen environment.old) (item.InterfaceTable table.now)) }
     ensures faults { OnOk result (findings.new ≡ noted findings.old (spec.item_faults checked (checked_block checked) (seen environment.old) (item.InterfaceTable table.now))) }
 {
-    let kind = table_kind(alloc, environment)?;
+    let kind = table_kind(environment);
     check_variable_name(environment, findings, &table.name);
     environment.check_laid_out(findings, kind, &table.name);
     check_function_name(environment, findings, &table.init);
-    environment.declare(alloc, &table.name, Sort::Variable(kind))
+    environment.declare(&table.name, Sort::Variable(kind))
 }
 
 // 4. Functions
 
 // The parameters and the outermost block of the body are one scope.
-fn check_function_body(
+fn check_function_body<'n>(
     alloc: Global,
-    environment: &mut Environment,
+    environment: &mut Environment<'n>,
     findings: &mut Findings,
-    signature: &Signature,
-    body: &Block,
+    signature: &'n Signature,
+    body: &'n Block,
 ) -> Result<(), Memory>
-    ensures names { OnOk result (environment.new ≡ environment.old) }
+    ensures names { OnOk result (seen environment.new ≡ seen environment.old) }
     ensures faults { OnOk result (findings.new ≡ noted findings.old (whole_body (spec.with_parameters (opened (seen environment.old)) signature.now.parameters) (kind_of (seen environment.old) signature.now.result) body.now)) }
 {
     let gives = environment.kind_of(&signature.result)?;
-    let count = environment.rows.len();
     environment.open()?;
-    declare_parameters(alloc, environment, signature.parameters.as_slice())?;
+    declare_parameters(environment, signature.parameters.as_slice())?;
     check_body(alloc, environment, findings, gives, body)?;
-    environment.close(count);
+    environment.close();
     Ok(())
 }
 
 // The faults in front of a body.
-fn check_head(
+fn check_head<'n>(
     alloc: Global,
-    environment: &mut Environment,
+    environment: &mut Environment<'n>,
     findings: &mut Findings,
-    signature: &Signature,
+    signature: &'n Signature,
 ) -> Result<(), Memory>
-    ensures names { OnOk result (environment.new ≡ environment.old) }
+    ensures names { OnOk result (seen environment.new ≡ seen environment.old) }
     ensures faults { OnOk result (findings.new ≡ noted findings.old (head_faults (seen environment.old) signature.now)) }
 {
     check_again(alloc, environment, findings, signature, true)?;
-    check_signature(alloc, environment, findings, signature)?;
+    check_signature(environment, findings, signature)?;
     check_definition(environment, findings, signature)
 }
 
-fn check_function(
+fn check_function<'n>(
     alloc: Global,
-    environment: &mut Environment,
+    environment: &mut Environment<'n>,
     findings: &mut Findings,
-    function: &Function,
+    function: &'n Function,
 ) -> Result<(), Memory>
     ensures names { OnOk result (seen environment.new ≡ spec.with_item (seen environment.old) (item.Function function.now)) }
     ensures faults { OnOk result (findings.new ≡ noted findings.old (spec.item_faults checked (checked_block checked) (seen environment.old) (item.Function function.now))) }
@@ -207,72 +197,69 @@ fn check_function(
     )
 }
 
-fn check_prototype(
+fn check_prototype<'n>(
     alloc: Global,
-    environment: &mut Environment,
+    environment: &mut Environment<'n>,
     findings: &mut Findings,
-    signature: &Signature,
+    signature: &'n Signature,
 ) -> Result<(), Memory>
     ensures names { OnOk result (seen environment.new ≡ spec.with_item (seen environment.old) (item.Prototype signature.now)) }
     ensures faults { OnOk result (findings.new ≡ noted findings.old (spec.item_faults checked (checked_block checked) (seen environment.old) (item.Prototype signature.now))) }
 {
     check_again(alloc, environment, findings, signature, false)?;
-    check_signature(alloc, environment, findings, signature)?;
+    check_signature(environment, findings, signature)?;
     add_function(alloc, environment, signature, false)
 }
 
 // 5. Types
 
-fn check_function_type(
+fn check_function_type<'n>(
     alloc: Global,
-    environment: &mut Environment,
+    environment: &mut Environment<'n>,
     findings: &mut Findings,
-    signature: &Signature,
+    signature: &'n Signature,
 ) -> Result<(), Memory>
     ensures names { OnOk result (seen environment.new ≡ spec.with_item (seen environment.old) (item.FunctionType signature.now)) }
     ensures faults { OnOk result (findings.new ≡ noted findings.old (spec.item_faults checked (checked_block checked) (seen environment.old) (item.FunctionType signature.now))) }
 {
     environment.check_new(findings, &signature.name);
-    check_signature(alloc, environment, findings, signature)?;
+    check_signature(environment, findings, signature)?;
     add_function_type(alloc, environment, signature)
 }
 
-fn check_struct_type(
-    alloc: Global,
-    environment: &mut Environment,
+fn check_struct_type<'n>(
+    environment: &mut Environment<'n>,
     findings: &mut Findings,
-    name: &Name,
+    name: &'n Name,
 ) -> Result<(), Memory>
     ensures names { OnOk result (seen environment.new ≡ spec.with_item (seen environment.old) (item.StructType name.now)) }
     ensures faults { OnOk result (findings.new ≡ noted findings.old (spec.item_faults checked (checked_block checked) (seen environment.old) (item.StructType name.now))) }
 {
     environment.check_new(findings, name);
-    add_struct(alloc, environment, name)
+    add_struct(environment, name)
 }
 
 /// Notes the faults of an item, and declares what it does.
-pub fn check_item(
+pub fn check_item<'n>(
     alloc: Global,
-    environment: &mut Environment,
+    environment: &mut Environment<'n>,
     findings: &mut Findings,
-    item: &Item,
+    item: &'n Item,
 ) -> Result<(), Memory>
     ensures names { OnOk result (seen environment.new ≡ spec.with_item (seen environment.old) item.now) }
     ensures faults { OnOk result (findings.new ≡ noted findings.old (spec.item_faults checked (checked_block checked) (seen environment.old) item.now)) }
 {
     match item {
         Item::Include(_) => Ok(()),
-        Item::StructType(name) => check_struct_type(alloc, environment, findings, name),
+        Item::StructType(name) => check_struct_type(environment, findings, name),
         Item::Struct(definition) => check_struct(alloc, environment, findings, definition),
-        Item::Enumeration(enumeration) => {
-            check_enumeration(alloc, environment, findings, enumeration)
-        }
+        Item::Enumeration(enumeration) => { check_enumeration(environment, findings, enumeration) }
         Item::FunctionType(signature) => {
             check_function_type(alloc, environment, findings, signature)
         }
         Item::Prototype(signature) => check_prototype(alloc, environment, findings, signature),
         Item::Variable(variable) => check_variable(alloc, environment, findings, variable),
-        Item::InterfaceTable(table) => check_table(alloc, environment, findings, table),
+        Item::InterfaceTable(table) => check_table(environment, findings, table),
         Item::Function(function) => check_function(alloc, environment, findings, function),
     }
 }

@@ -9,4 +9,6 @@ mod tables;
 mod types;
 mod unit;
 
-pub use unit::{check, has_main};
+pub use signatures::declare_parameters;
+pub use start::library;
+pub use unit::{check, declared, has_main};

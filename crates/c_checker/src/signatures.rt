@@ -5,7 +5,6 @@ ghost use Rattle.c_tree.specs.Env.{found, kind_of, number_of, opened};
 ghost use Rattle.c_tree.specs.Checks.{type_faults};
 ghost use Rattle.c_tree.specs.Unit as spec;
 ghost use Rattle.c_checker.specs.Functions.{again_by};
-ghost use Rattle.c_value_checker.specs.Extends.{Extends};
 ghost use Rattle.c_value_checker.specs.Noted.{noted};
 ghost use Rattle.c_value_checker.specs.Seen.{seen};
 
@@ -26,32 +25,28 @@ fn check_new(environment: &Environment, findings: &mut Findings, name: &Option<N
     }
 }
 
-fn declare_parameter(
-    alloc: Global,
-    environment: &mut Environment,
-    parameter: &Parameter,
+fn declare_parameter<'n>(
+    environment: &mut Environment<'n>,
+    parameter: &'n Parameter,
 ) -> Result<(), Memory>
-    ensures names { OnOk result (seen environment.new ≡ spec.with_parameter (seen environment.old) parameter.now) }
-    ensures rows { OnOk result (Extends environment.old environment.new) }
+    ensures { OnOk result (seen environment.new ≡ spec.with_parameter (seen environment.old) parameter.now) }
 {
     let kind = environment.kind_of(&parameter.declared)?;
     match &parameter.name {
         None => Ok(()),
-        Some(name) => environment.declare(alloc, name, Sort::Variable(kind)),
+        Some(name) => environment.declare(name, Sort::Variable(kind)),
     }
 }
 
 /// The names of parameters, in a scope that is open already.
-pub fn declare_parameters(
-    alloc: Global,
-    environment: &mut Environment,
-    parameters: &[Parameter],
+pub fn declare_parameters<'n>(
+    environment: &mut Environment<'n>,
+    parameters: &'n [Parameter],
 ) -> Result<(), Memory>
-    ensures names { OnOk result (seen environment.new ≡ spec.with_parameters (seen environment.old) parameters.now) }
-    ensures rows { OnOk result (Extends environment.old environment.new) }
+    ensures { OnOk result (seen environment.new ≡ spec.with_parameters (seen environment.old) parameters.now) }
 {
     for parameter in parameters {
-        declare_parameter(alloc, environment, parameter)?;
+        declare_parameter(environment, parameter)?;
     }
     Ok(())
 }
@@ -65,56 +60,47 @@ fn judge_parameter(environment: &Environment, findings: &mut Findings, parameter
 }
 
 // The types and names of parameters, in a scope that is open already.
-fn check_parameters(
-    alloc: Global,
-    environment: &mut Environment,
+fn check_parameters<'n>(
+    environment: &mut Environment<'n>,
     findings: &mut Findings,
-    parameters: &[Parameter],
+    parameters: &'n [Parameter],
 ) -> Result<(), Memory>
-    ensures rows { OnOk result (Extends environment.old environment.new) }
+    ensures names { OnOk result (seen environment.new ≡ spec.with_parameters (seen environment.old) parameters.now) }
     ensures faults { OnOk result (findings.new ≡ noted findings.old (spec.parameter_faults (seen environment.old) parameters.now)) }
 {
     for parameter in parameters {
         judge_parameter(environment, findings, parameter);
-        declare_parameter(alloc, environment, parameter)?;
+        declare_parameter(environment, parameter)?;
     }
     Ok(())
 }
 
 // In a scope of their own.
-fn check_scope(
-    alloc: Global,
-    environment: &mut Environment,
+fn check_scope<'n>(
+    environment: &mut Environment<'n>,
     findings: &mut Findings,
-    parameters: &[Parameter],
+    parameters: &'n [Parameter],
 ) -> Result<(), Memory>
-    ensures names { OnOk result (environment.new ≡ environment.old) }
+    ensures names { OnOk result (seen environment.new ≡ seen environment.old) }
     ensures faults { OnOk result (findings.new ≡ noted findings.old (spec.parameter_faults (opened (seen environment.old)) parameters.now)) }
 {
-    let count = environment.rows.len();
     environment.open()?;
-    check_parameters(alloc, environment, findings, parameters)?;
-    environment.close(count);
+    check_parameters(environment, findings, parameters)?;
+    environment.close();
     Ok(())
 }
 
 /// Notes the faults in what a function takes and gives.
-pub fn check_signature(
-    alloc: Global,
-    environment: &mut Environment,
+pub fn check_signature<'n>(
+    environment: &mut Environment<'n>,
     findings: &mut Findings,
-    signature: &Signature,
+    signature: &'n Signature,
 ) -> Result<(), Memory>
-    ensures names { OnOk result (environment.new ≡ environment.old) }
+    ensures names { OnOk result (seen environment.new ≡ seen environment.old) }
     ensures faults { OnOk result (findings.new ≡ noted findings.old (spec.signature_faults (seen environment.old) signature.now)) }
 {
     environment.check_type(findings, &signature.result);
-    check_scope(
-        alloc,
-        environment,
-        findings,
-        signature.parameters.as_slice(),
-    )
+    check_scope(environment, findings, signature.parameters.as_slice())
 }
 
 // 2. What is laid out
@@ -267,10 +253,10 @@ fn is_defined(environment: &Environment, signature: &Signature, defines: bool) -
 }
 
 /// A prototype or a definition of a function.
-pub fn add_function(
+pub fn add_function<'n>(
     alloc: Global,
-    environment: &mut Environment,
-    signature: &Signature,
+    environment: &mut Environment<'n>,
+    signature: &'n Signature,
     defines: bool,
 ) -> Result<(), Memory>
     ensures { OnOk result (seen environment.new ≡ spec.with_function (seen environment.old) signature.now defines) }
@@ -279,24 +265,22 @@ pub fn add_function(
     let takes = takes_of(alloc, environment, signature)?;
     let number = add_signature(environment, takes)?;
     environment.declare(
-        alloc,
         &signature.name,
         Sort::Function(number, signature.is_static, is_defined),
     )
 }
 
 /// `typedef R (*F) (parameters);`
-pub fn add_function_type(
+pub fn add_function_type<'n>(
     alloc: Global,
-    environment: &mut Environment,
-    signature: &Signature,
+    environment: &mut Environment<'n>,
+    signature: &'n Signature,
 ) -> Result<(), Memory>
     ensures { OnOk result (seen environment.new ≡ spec.new_function_type (seen environment.old) signature.now) }
 {
     let takes = takes_of(alloc, environment, signature)?;
     let number = add_signature(environment, takes)?;
     environment.declare(
-        alloc,
         &signature.name,
         Sort::Type(plain(KindBase::Function(number))),
     )

@@ -5,57 +5,39 @@ ghost use Rattle.c_tree.specs.Env as env;
 ghost use Rattle.c_tree.specs.Library.{all, library_signatures, library_structs};
 ghost use Rattle.c_body_checker.specs.Rows.{row_seen};
 ghost use Rattle.c_checker.specs.Tables.{field_row, kind_seen, named_seen, signature_seen, struct_seen, with_rows, with_types};
-ghost use Rattle.c_value_checker.specs.Seen.{field_seen, seen, structure_seen, takes_seen};
+ghost use Rattle.c_value_checker.specs.Seen.{seen, takes_seen};
+ghost use Rattle.c_value_checker.specs.Structures.{field_seen, structure_seen};
 
 use crate::library_types::{
     KindRow, NamedKind, SignatureRow, StructRow, function_types, integer_types, signatures,
     struct_types, structs,
 };
-use crate::tables::{copy, number_in, push_field, push_kind, push_struct, push_takes};
+use crate::tables::{copy, number_in, push_field, push_kind, push_takes};
 use c_body_checker::{LibraryRow, present_rows};
 use c_tree::{Kind, Sort};
-use c_value_checker::{Environment, Field, Row, Structure, Takes};
+use c_value_checker::{Environment, Field, Structure, Structures, Takes};
 use sqlite_items::Items;
 use std::alloc::Global;
 use vg_base::Memory;
 
 // 1. Names
 
-fn push_name(
-    alloc: Global,
-    environment: &mut Environment,
-    name: &[u8],
-    sort: Sort,
-) -> Result<(), Memory>
-    ensures { OnOk result (seen environment.new ≡ record (seen environment.old) { scopes = env.with_entry (seen environment.old).scopes (record { name = name.now; sort = sort }) }) }
-{
-    let text = copy(alloc, name)?;
-    match environment.rows.push(Row::Entry(text, sort)) {
-        Ok(()) => Ok(()),
-        Err(_) => Err(Memory),
-    }
-}
-
-fn add_type(alloc: Global, environment: &mut Environment, named: &NamedKind) -> Result<(), Memory>
+fn add_type(environment: &mut Environment, named: &NamedKind) -> Result<(), Memory>
     ensures { OnOk result (seen environment.new ≡ with_types (seen environment.old) (named_seen named.now ∷ [])) }
 {
     let kind = Kind {
         base: named.1,
         stars: named.2,
     };
-    push_name(alloc, environment, named.0, Sort::Type(kind))
+    environment.declare_text(named.0, Sort::Type(kind))
 }
 
 // The first of them is declared last.
-fn add_types(
-    alloc: Global,
-    environment: &mut Environment,
-    mut types: &[NamedKind],
-) -> Result<(), Memory>
+fn add_types(environment: &mut Environment, mut types: &[NamedKind]) -> Result<(), Memory>
     ensures { OnOk result (seen environment.new ≡ with_types (seen environment.old) (map named_seen types.entry.now)) }
 {
     while let [rest @ .., named] = types {
-        add_type(alloc, environment, named)?;
+        add_type(environment, named)?;
         types = rest;
     }
     Ok(())
@@ -87,25 +69,24 @@ fn fields_of(alloc: Global, rows: &[NamedKind]) -> Result<Items<Field>, Memory>
     Ok(fields)
 }
 
-fn struct_of(alloc: Global, row: &StructRow) -> Result<Structure, Memory>
+fn struct_of<'n>(alloc: Global, row: &StructRow) -> Result<Structure<'n>, Memory>
     ensures { IfOk result (λ found. structure_seen found ≡ struct_seen row.now) }
 {
-    let name = copy(alloc, row.0)?;
     let fields = fields_of(alloc, row.2)?;
     Ok(Structure {
-        name,
+        name: row.0,
         fields: Some(fields),
         cells: row.1,
     })
 }
 
-fn structs_of(alloc: Global, rows: &[StructRow]) -> Result<Items<Structure>, Memory>
-    ensures { IfOk result (λ found. map structure_seen found ≡ map struct_seen rows.now) }
+fn structs_of<'n>(alloc: Global, rows: &[StructRow]) -> Result<Structures<'n>, Memory>
+    ensures { IfOk result (λ found. found ≡ map struct_seen rows.now) }
 {
-    let mut found = Items::new(alloc);
+    let mut found = Structures::new(alloc);
     for row in rows {
         let one = struct_of(alloc, row)?;
-        push_struct(&mut found, one)?;
+        found.push(one)?;
     }
     Ok(found)
 }
@@ -155,42 +136,34 @@ fn signatures_of(alloc: Global, rows: &[SignatureRow]) -> Result<Items<Takes>, M
 // 4. The library
 
 // The structs and the signatures, and no names.
-fn without_names(alloc: Global) -> Result<Environment, Memory>
-    ensures { IfOk result (λ found. seen found ≡ record { scopes = []; structs = library_structs; signatures = library_signatures }) }
+fn without_names<'n>(alloc: Global) -> Result<Environment<'n>, Memory>
+    ensures { IfOk result (λ found. seen found ≡ record { scopes = [] ∷ []; structs = library_structs; signatures = library_signatures }) }
 {
     let structs = structs_of(alloc, structs())?;
     let signatures = signatures_of(alloc, signatures())?;
-    Ok(Environment {
-        rows: Items::new(alloc),
-        structs,
-        signatures,
-    })
+    Ok(Environment::new(alloc, structs, signatures))
 }
 
 // The functions, by their numbers in the table. The first of them is declared last.
-fn add_rows(
-    alloc: Global,
-    environment: &mut Environment,
-    mut rows: &[LibraryRow],
-) -> Result<(), Memory>
+fn add_rows(environment: &mut Environment, mut rows: &[LibraryRow]) -> Result<(), Memory>
     ensures { OnOk result (seen environment.new ≡ with_rows (seen environment.old) (env.row_entries 0 (map row_seen rows.entry.now))) }
 {
     while let [rest @ .., row] = rows {
         let number = number_in(rest.len())?;
-        push_name(alloc, environment, row.name, Sort::Row(number))?;
+        environment.declare_text(row.name, Sort::Row(number))?;
         rows = rest;
     }
     Ok(())
 }
 
 /// The library stands in the same scope as the items of a unit.
-pub fn library(alloc: Global) -> Result<Environment, Memory>
+pub fn library<'n>(alloc: Global) -> Result<Environment<'n>, Memory>
     ensures { IfOk result (λ found. seen found ≡ env.library) }
 {
     let mut environment = without_names(alloc)?;
-    add_rows(alloc, &mut environment, present_rows())?;
-    add_types(alloc, &mut environment, struct_types())?;
-    add_types(alloc, &mut environment, function_types())?;
-    add_types(alloc, &mut environment, integer_types())?;
+    add_rows(&mut environment, present_rows())?;
+    add_types(&mut environment, struct_types())?;
+    add_types(&mut environment, function_types())?;
+    add_types(&mut environment, integer_types())?;
     Ok(environment)
 }

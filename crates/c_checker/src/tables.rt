@@ -1,10 +1,11 @@
 // Structs and signatures, as a unit declares them.
 
 ghost use Rattle.std.specs.Prelude.{◌≡◌, ◌+◌, ◌++◌, [], ◌∷◌, map, IfOk, OnOk, Some};
-ghost use Rattle.c_tree.specs.Env.{kind_of, number_of, same_takes, signature_number, structure_named, with_signature};
+ghost use Rattle.c_tree.specs.Env.{kind_of, number_of, same_takes, signature_number, with_signature};
 ghost use Rattle.c_tree.specs.Kinds.{plain, same_known, same_list};
-ghost use Rattle.c_tree.specs.Unit.{define_struct, fields_cells, fields_declared, kept_cells, known_cells, new_struct, parameter_kinds, takes_of, with_fields};
-ghost use Rattle.c_value_checker.specs.Seen.{field_seen, seen, structure_seen, takes_seen};
+ghost use Rattle.c_tree.specs.Unit.{define_struct, fields_cells, fields_declared, kept_cells, known_cells, new_struct, parameter_kinds, takes_of};
+ghost use Rattle.c_value_checker.specs.Seen.{seen, takes_seen};
+ghost use Rattle.c_value_checker.specs.Structures.{field_seen};
 
 use c_tree::{Kind, KindBase, Local, Name, Parameter, Signature, Sort};
 use c_value_checker::{Environment, Field, Structure, Takes, same};
@@ -19,15 +20,6 @@ pub fn copy(alloc: Global, text: &[u8]) -> Result<Items<u8>, Memory>
 {
     match Items::from_slice(alloc, text) {
         Ok(copy) => Ok(copy),
-        Err(_) => Err(Memory),
-    }
-}
-
-pub fn push_struct(structs: &mut Items<Structure>, one: Structure) -> Result<(), Memory>
-    ensures { OnOk result (structs.new ≡ structs.old ++ one ∷ []) }
-{
-    match structs.push(one) {
-        Ok(()) => Ok(()),
         Err(_) => Err(Memory),
     }
 }
@@ -51,35 +43,16 @@ pub fn plain(base: KindBase) -> Kind
 
 /// `typedef struct _X X;`: a struct that is not defined yet.
 #[tactic(auto, using(crate::proofs::TableLemmas::struct_declared))]
-pub fn add_struct(alloc: Global, environment: &mut Environment, name: &Name) -> Result<(), Memory>
+pub fn add_struct<'n>(environment: &mut Environment<'n>, name: &'n Name) -> Result<(), Memory>
     ensures { OnOk result (seen environment.new ≡ new_struct (seen environment.old) name.now) }
 {
     let number = number_in(environment.structs.len())?;
-    let text = copy(alloc, name.text.as_slice())?;
-    push_struct(
-        &mut environment.structs,
-        Structure {
-            name: text,
-            fields: None,
-            cells: 0,
-        },
-    )?;
-    environment.declare(alloc, name, Sort::Type(plain(KindBase::Struct(number))))
-}
-
-/// The number of the struct with a name.
-#[tactic(auto, using(crate::proofs::TableLemmas::struct_turn, crate::proofs::TableLemmas::struct_found))]
-pub fn struct_number(structs: &[Structure], name: &Name) -> Option<usize>
-    ensures { result ≡ structure_named 0 (map structure_seen structs.now) name.now.text }
-{
-    let mut number = 0;
-    for structure in structs {
-        if structure.name.as_slice() == name.text.as_slice() {
-            return Some(number);
-        }
-        number += 1;
-    }
-    None
+    environment.structs.push(Structure {
+        name: name.text.as_slice(),
+        fields: None,
+        cells: 0,
+    })?;
+    environment.declare(name, Sort::Type(plain(KindBase::Struct(number))))
 }
 
 pub fn push_field(fields: &mut Items<Field>, one: Field) -> Result<(), Memory>
@@ -143,32 +116,6 @@ fn cells_of_fields(environment: &Environment, fields: &[Field]) -> u64
     }
 }
 
-// The struct with a number gets fields and cells.
-#[tactic(auto, using(crate::proofs::TableLemmas::fields_nowhere, crate::proofs::TableLemmas::fields_there))]
-fn set_fields(
-    alloc: Global,
-    structs: &mut Items<Structure>,
-    number: usize,
-    fields: Items<Field>,
-    cells: u64,
-) -> Result<(), Memory>
-    ensures { OnOk result (map structure_seen structs.new ≡ with_fields (map structure_seen structs.old) number (map field_seen fields) cells) }
-{
-    let Some(structure) = structs.get(number) else {
-        return Ok(());
-    };
-    let name = copy(alloc, structure.name.as_slice())?;
-    structs.set(
-        number,
-        Structure {
-            name,
-            fields: Some(fields),
-            cells,
-        },
-    );
-    Ok(())
-}
-
 /// `struct _X { fields };`: the struct with a number is defined.
 pub fn define(
     alloc: Global,
@@ -180,7 +127,8 @@ pub fn define(
 {
     let fields = fields_of(alloc, environment, locals)?;
     let cells = cells_of_fields(environment, fields.as_slice());
-    set_fields(alloc, &mut environment.structs, number, fields, cells)
+    environment.structs.define(number, fields, cells);
+    Ok(())
 }
 
 // 2. Signatures

@@ -5,30 +5,18 @@ ghost use Rattle.c_tree.specs.Checks as spec;
 ghost use Rattle.c_tree.specs.Env.{kind_of};
 ghost use Rattle.c_constants.specs.Choices.{chosen_before};
 ghost use Rattle.c_constants.specs.Told.{worth_told};
-ghost use Rattle.c_value_checker.specs.Judgements.{checked_choice, checked_link, checked_shape, judged};
+ghost use Rattle.c_value_checker.specs.Judgements.{checked_choice, checked_link, checked_shape};
 ghost use Rattle.c_value_checker.specs.Seen.{seen};
 
 use crate::layout::{member_worth, place_worth, size_worth};
 use crate::literals::{character_worth, constant_worth, text_worth};
-use crate::operands::{chosen, combine_told, joined, prefixed};
+use crate::operands::combine_told;
 use crate::operators::prefix_told;
 use crate::worth::{Datum, Worth, choose, in_kind, of_number};
 use c_tree::{CType, Choice, Expr, Kind, Link, Name, Operand, PrefixOperator, Shape};
-use c_value_checker::{Environment, Findings, Judged, check_value};
+use c_value_checker::{Environment, chosen, joined, judge, kind_of_value, prefixed};
 use std::alloc::Global;
 use vg_base::Memory;
-
-// What is known of a part. Its faults are noted with those of the whole value.
-fn judge(alloc: Global, environment: &Environment, value: &Expr) -> Result<Judged, Memory>
-    ensures { IfOk result (λ found. found ≡ judged (seen environment.now) (spec.checked value.now).value) }
-{
-    let mut ignored = Findings {
-        first: None,
-        last: 0,
-        floor: 0,
-    };
-    check_value(alloc, environment, &mut ignored, value)
-}
 
 fn judged_operand(
     alloc: Global,
@@ -39,17 +27,6 @@ fn judged_operand(
 {
     let found = judge(alloc, environment, value)?;
     Ok(found.operand())
-}
-
-fn judged_kind(
-    alloc: Global,
-    environment: &Environment,
-    value: &Expr,
-) -> Result<Option<Kind>, Memory>
-    ensures { IfOk result (λ kind. kind ≡ (spec.checked value.now).value.kind (seen environment.now)) }
-{
-    let found = judge(alloc, environment, value)?;
-    Ok(found.kind)
 }
 
 fn size<'a>(environment: &Environment, declared: &CType) -> Result<Worth<'a>, Memory>
@@ -139,7 +116,7 @@ fn prefix_worth<'a>(
 ) -> Result<Worth<'a>, Memory>
     ensures { IfOk result (λ worth. worth_told worth ≡ spec.prefixes_worth (seen environment.now) operators.now ((spec.checked operand.now).value.kind (seen environment.now)) ((spec.checked operand.now).value.worth (seen environment.now))) }
 {
-    let kind = judged_kind(alloc, environment, operand)?;
+    let kind = kind_of_value(alloc, environment, operand)?;
     let worth = worth_of(alloc, environment, operand)?;
     prefixes_worth(environment, operators, kind, worth)
 }
@@ -249,7 +226,7 @@ fn choice_operand(
 ) -> Result<Option<Operand>, Memory>
     ensures { IfOk result (λ operand. operand ≡ spec.choice_operand (seen environment.now) (checked_choice choice.now ∷ []) other) }
 {
-    let test = judged_kind(alloc, environment, &choice.test)?;
+    let test = kind_of_value(alloc, environment, &choice.test)?;
     let yes = judged_operand(alloc, environment, &choice.yes)?;
     Ok(chosen(test, yes, other))
 }

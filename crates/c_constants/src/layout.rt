@@ -1,14 +1,14 @@
 // Values that are read off what is declared: sizes, places of fields and members.
 
-ghost use Rattle.std.specs.Prelude.{◌≡◌, ◌+◌, map, IfOk};
+ghost use Rattle.std.specs.Prelude.{◌≡◌, IfOk};
 ghost use Rattle.c_tree.specs.Env.{fields_of, found};
 ghost use Rattle.c_tree.specs.Checks as checks;
 ghost use Rattle.c_constants.specs.Told.{number_told};
-ghost use Rattle.c_value_checker.specs.Seen.{field_seen, seen};
+ghost use Rattle.c_value_checker.specs.Seen.{seen};
 
 use crate::numbers::NumberWorth;
 use c_tree::{Kind, KindBase, Name, Sort};
-use c_value_checker::{Environment, Field};
+use c_value_checker::Environment;
 use vg_base::Memory;
 
 /// A number of cells.
@@ -21,45 +21,13 @@ pub fn size_worth(environment: &Environment, kind: Option<Kind>) -> NumberWorth
     }
 }
 
-fn cells_if(environment: &Environment, kind: Option<Kind>) -> u64
-    ensures { result ≡ checks.cells_if (seen environment.now) kind }
-{
-    match kind {
-        None => 0,
-        Some(kind) => environment.cells_of(kind),
-    }
-}
-
-fn add(a: u64, b: u64) -> Result<u64, Memory>
-    ensures { IfOk result (λ sum. sum ≡ a + b) }
-{
-    match a.checked_add(b) {
-        None => Err(Memory),
-        Some(sum) => Ok(sum),
-    }
-}
-
-// The cells in front of a field.
-fn cells_before(environment: &Environment, fields: &[Field], name: &Name) -> Result<u64, Memory>
-    ensures { IfOk result (λ cells. cells ≡ checks.cells_before (seen environment.now) (map field_seen fields.now) name.now.text) }
-{
-    let mut cells = 0;
-    for field in fields {
-        if field.name.as_slice() == name.text.as_slice() {
-            return Ok(cells);
-        }
-        cells = add(cells, cells_if(environment, field.kind))?;
-    }
-    Ok(cells)
-}
-
 fn place_in(environment: &Environment, number: u32, name: &Name) -> Result<NumberWorth, Memory>
     ensures { IfOk result (λ worth. number_told worth ≡ checks.offset_in (seen environment.now) (fields_of (seen environment.now) number) name.now) }
 {
     match environment.fields(number) {
         None => Ok(NumberWorth::Untold),
         Some(fields) => {
-            let cells = cells_before(environment, fields, name)?;
+            let cells = environment.cells_before(fields, name)?;
             Ok(NumberWorth::Is(cells as i128))
         }
     }

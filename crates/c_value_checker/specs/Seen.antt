@@ -1,45 +1,49 @@
 -- What the checker's tables say.
-use Rattle.std.specs.Prelude.{Bool, true, false, ℕ, List, [], ◌∷◌, map, Option, Some, None, if◌then◌else◌}
-use Rattle.std.specs.Option.{option_map}
-use Rattle.std.specs.Str.{bytes_eq}
+use Rattle.std.specs.Prelude.{ℕ, suc, ◌-◌, List, [], ◌∷◌, map, take, drop, reverse}
 use Rattle.c_tree.specs.declared.kinds.Sort.{Sort}
-use Rattle.c_tree.specs.Library.{Takes, Field, Structure}
-use Rattle.c_tree.specs.Env.{Env, Entry, with_entry}
-use Rattle.c_value_checker.specs.declared.environment.Row.{Row}
-use Rattle.c_value_checker.specs.declared.environment.Row.TheVariants as row
-use Rattle.c_value_checker.specs.declared.environment.Field.{Field as FieldRow}
-use Rattle.c_value_checker.specs.declared.environment.Structure.{Structure as StructureRow}
+use Rattle.c_tree.specs.Library.{Takes}
+use Rattle.c_tree.specs.Env.{Env, Entry}
 use Rattle.c_value_checker.specs.declared.environment.Takes.{Takes as TakesRow}
 use Rattle.c_value_checker.specs.declared.environment.Environment.{Environment}
 
--- whether a scope begins at a row
-abbrev pub is_begin : Row → Bool
-is_begin row.Begin = true
-is_begin (row.Entry x k) = false
+-- 1. Scopes
 
--- the scopes behind the rows of a table
-abbrev pub grown : List (List Entry) → List Row → List (List Entry)
-grown s [] = s
-grown s (row.Begin ∷ rs) = grown ([] ∷ s) rs
-grown s (row.Entry x k ∷ rs) = grown (with_entry s (record { name = x; sort = k })) rs
+-- a name, and what it stands for
+abbrev pub entry : List ℕ × Sort → Entry
+entry e = record { name = e.0; sort = e.1 }
 
--- what a row says of a name
-abbrev pub row_sort : Row → List ℕ → Option Sort
-row_sort row.Begin x = None
-row_sort (row.Entry y k) x = if bytes_eq y x then Some k else None
+-- the scopes of names, the last of which stands first: how many names each scope has is given, the innermost first; the outermost has all that are left
+abbrev pub cut : List (List ℕ × Sort) → List ℕ → List (List Entry)
+cut es [] = map entry es ∷ []
+cut es (n ∷ ns) = map entry (take n es) ∷ cut (drop n es) ns
 
--- a field
-abbrev pub field_seen : FieldRow → Field
-field_seen f = record { name = f.name; kind = f.kind }
+-- how many of so many names stand in front of the innermost scope
+abbrev pub begin_of : ℕ → List ℕ → ℕ
+begin_of count [] = 0
+begin_of count (n ∷ ns) = count - n
 
--- a struct
-abbrev pub structure_seen : StructureRow → Structure
-structure_seen s = record { name = s.name; fields = option_map (map field_seen) s.fields; cells = s.cells }
+-- the innermost scope has one name more; the outermost is not counted
+abbrev pub one_more : List ℕ → List ℕ
+one_more [] = []
+one_more (n ∷ ns) = suc n ∷ ns
+
+-- scopes without the innermost; one that is alone stays
+abbrev pub without_innermost : List (List Entry) → List (List Entry)
+without_innermost (s ∷ t ∷ ss) = t ∷ ss
+without_innermost ss = ss
+
+-- the innermost scope ends
+abbrev pub closed : Env → Env
+closed env = record env { scopes = without_innermost env.scopes }
+
+-- 2. Signatures
 
 -- a signature
 abbrev pub takes_seen : TakesRow → Takes
 takes_seen t = record { result = t.result; parameters = t.parameters }
 
+-- 3. The whole
+
 -- what is declared
 abbrev pub seen : Environment → Env
-seen e = record { scopes = grown [] e.rows; structs = map structure_seen e.structs; signatures = map takes_seen e.signatures }
+seen e = record { scopes = cut e.names (reverse e.counts.items); structs = e.structs; signatures = map takes_seen e.signatures }

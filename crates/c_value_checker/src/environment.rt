@@ -1,29 +1,13 @@
 // What is declared, as the checker keeps it.
 
+ghost use Rattle.std.specs.Prelude.{◌≡◌, [], ◌∷◌, map};
+ghost use Rattle.c_value_checker.specs.Seen.{seen, takes_seen};
+
+use crate::structures::Structures;
 use c_tree::{Kind, Sort};
+use name_table::NameTable;
 use sqlite_items::Items;
-
-/// A line of the table of names: where a scope begins, or a name and what it stands for.
-#[derive(Drop)]
-pub enum Row {
-    Begin,
-    Entry(Items<u8>, Sort),
-}
-
-#[derive(Drop)]
-pub struct Field {
-    pub name: Items<u8>,
-    /// It has none where its type is undeclared.
-    pub kind: Option<Kind>,
-}
-
-/// A struct. It has fields where it is defined.
-#[derive(Drop)]
-pub struct Structure {
-    pub name: Items<u8>,
-    pub fields: Option<Items<Field>>,
-    pub cells: u64,
-}
+use std::alloc::Global;
 
 /// What a function takes and gives.
 #[derive(Drop)]
@@ -32,10 +16,26 @@ pub struct Takes {
     pub parameters: Items<Option<Kind>>,
 }
 
-/// The names in scope, the last one behind, and the structs and the signatures by their numbers.
+/// The names in scope, and the structs and the signatures by their numbers. A name is borrowed from what declares it.
 #[derive(Drop)]
-pub struct Environment {
-    pub rows: Items<Row>,
-    pub structs: Items<Structure>,
+pub struct Environment<'n> {
+    pub names: NameTable<'n, Sort>,
+    /// How many of the names each scope has but the outermost, the innermost scope last.
+    pub counts: Vec<usize>,
+    pub structs: Structures<'n>,
     pub signatures: Items<Takes>,
+}
+
+impl<'n> Environment<'n> {
+    /// One scope without names.
+    pub fn new(alloc: Global, structs: Structures<'n>, signatures: Items<Takes>) -> Environment<'n>
+        ensures { seen result ≡ record { scopes = [] ∷ []; structs = structs.entry; signatures = map takes_seen signatures } }
+    {
+        Environment {
+            names: NameTable::new(alloc),
+            counts: Vec::new(alloc),
+            structs,
+            signatures,
+        }
+    }
 }

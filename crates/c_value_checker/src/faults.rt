@@ -65,6 +65,17 @@ fn known_since(floor: u64, last: u32, since: u32) -> Option<u32>
 }
 
 impl Findings {
+    /// What is there, and nothing further yet.
+    pub fn new(first: Option<Fault>, last: u32) -> Findings
+        ensures { result ≡ record { first = first; last = last; floor = 0 } }
+    {
+        Findings {
+            first,
+            last,
+            floor: 0,
+        }
+    }
+
     /// One more fault.
     pub fn note(&mut self, place: u32, cause: Cause, since: u32)
         ensures { self.new ≡ noted self.old (spec.fault cause place since) }

@@ -6,12 +6,14 @@ ghost use Rattle.c_tree.specs.Checks.{arrow_of, field_by, field_found, field_of,
 ghost use Rattle.c_tree.specs.Env.{field_named};
 ghost use Rattle.c_tree.specs.Faults.{on, Gives};
 ghost use Rattle.c_value_checker.specs.Outcomes.{told};
-ghost use Rattle.c_value_checker.specs.Seen.{field_seen, seen};
+ghost use Rattle.c_value_checker.specs.Seen.{seen};
+ghost use Rattle.c_value_checker.specs.Structures.{field_seen};
 
-use crate::environment::{Environment, Field};
+use crate::environment::Environment;
 use crate::kinds::{LONG, ULONG, is_integer, is_pointer};
 use crate::layout::target;
 use crate::outcome::{Outcome, given_if};
+use crate::structures::Field;
 use c_tree::{Kind, KindBase, Name};
 
 fn known(kind: Option<Kind>) -> Outcome
@@ -34,7 +36,7 @@ fn find_field(fields: &[Field], name: &Name) -> Outcome
     Outcome::Lacks(name.span.start)
 }
 
-impl Environment {
+impl<'n> Environment<'n> {
     fn field_by(&self, base: KindBase, name: &Name) -> Outcome
         ensures { result ≡ told (field_by (seen self.now) base name.now) }
     {

@@ -1,16 +1,18 @@
 // Types, structs and their cells.
 
-ghost use Rattle.std.specs.Prelude.{◌≡◌, Some, None, map, IfOk, MatchOption, is_some};
+ghost use Rattle.std.specs.Prelude.{◌≡◌, ◌+◌, Some, None, map, IfOk, MatchOption, is_some};
 ghost use Rattle.std.specs.Option.{option_copied, option_map};
-ghost use Rattle.c_tree.specs.Env.{base_cells, base_kind, cells_of, fields_of, kind_of, laid_out, laid_out_base, reaches, signature_at, structure_at, target};
-ghost use Rattle.c_tree.specs.Checks.{type_faults};
+ghost use Rattle.c_tree.specs.Env.{base_cells, base_kind, cells_of, fields_of, kind_of, laid_out, laid_out_base, reaches, signature_at, target};
+ghost use Rattle.c_tree.specs.Checks.{cells_before, cells_if, type_faults};
 ghost use Rattle.c_tree.specs.Rules.{laid_out_if, not_laid_out};
 ghost use Rattle.c_value_checker.specs.Noted.{noted};
-ghost use Rattle.c_value_checker.specs.Seen.{field_seen, seen, structure_seen, takes_seen};
+ghost use Rattle.c_value_checker.specs.Seen.{seen, takes_seen};
+ghost use Rattle.c_value_checker.specs.Structures.{field_seen};
 
-use crate::environment::{Environment, Field, Structure, Takes};
+use crate::environment::{Environment, Takes};
 use crate::faults::Findings;
 use crate::kinds::is_pointer;
+use crate::structures::Field;
 use c_tree::{Base, CType, Kind, KindBase, Name, Sort, Width};
 use sqlite_items::at;
 use vg_base::Memory;
@@ -28,19 +30,16 @@ pub fn target(kind: Kind) -> Kind
     }
 }
 
-impl Environment {
-    #[tactic(auto, using(crate::proofs::StructLemmas::structure_number))]
-    fn structure(&self, number: u32) -> Option<&Structure>
-        ensures { MatchOption result
-            (structure_at (seen self.now).structs number ≡ None)
-            (λ found. structure_at (seen self.now).structs number ≡ Some (structure_seen found.now)) }
-    {
-        match at(self.structs.as_slice(), number as usize) {
-            None => None,
-            Some(found) => Some(found),
-        }
+fn sum(a: u64, b: u64) -> Result<u64, Memory>
+    ensures { IfOk result (λ sum. sum ≡ a + b) }
+{
+    match a.checked_add(b) {
+        None => Err(Memory),
+        Some(sum) => Ok(sum),
     }
+}
 
+impl<'n> Environment<'n> {
     /// The signature with a number.
     #[tactic(auto, using(crate::proofs::StructLemmas::takes_number))]
     pub fn signature(&self, number: u32) -> Option<&Takes>
@@ -55,7 +54,7 @@ impl Environment {
             (fields_of (seen self.now) number ≡ None)
             (λ fields. fields_of (seen self.now) number ≡ Some (map field_seen fields.now)) }
     {
-        match self.structure(number) {
+        match self.structs.get(number) {
             None => None,
             Some(structure) => match &structure.fields {
                 None => None,
@@ -68,7 +67,7 @@ impl Environment {
         ensures { result ≡ base_cells (seen self.now) base }
     {
         match base {
-            KindBase::Struct(number) => match self.structure(number) {
+            KindBase::Struct(number) => match self.structs.get(number) {
                 None => 0,
                 Some(structure) => structure.cells,
             },
@@ -85,6 +84,30 @@ impl Environment {
         } else {
             self.base_cells(kind.base)
         }
+    }
+
+    /// The cells of a kind that may be unknown.
+    pub fn cells_if(&self, kind: Option<Kind>) -> u64
+        ensures { result ≡ cells_if (seen self.now) kind }
+    {
+        match kind {
+            None => 0,
+            Some(kind) => self.cells_of(kind),
+        }
+    }
+
+    /// The cells in front of the field with a name.
+    pub fn cells_before(&self, fields: &[Field], name: &Name) -> Result<u64, Memory>
+        ensures { IfOk result (λ cells. cells ≡ cells_before (seen self.now) (map field_seen fields.now) name.now.text) }
+    {
+        let mut cells = 0;
+        for field in fields {
+            if field.name.as_slice() == name.text.as_slice() {
+                return Ok(cells);
+            }
+            cells = sum(cells, self.cells_if(field.kind))?;
+        }
+        Ok(cells)
     }
 
     fn is_base_laid_out(&self, base: KindBase) -> bool

@@ -12,9 +12,10 @@ mod outcome;
 mod prefixes;
 mod scopes;
 mod singles;
+mod structures;
 mod values;
 
-pub use environment::{Environment, Field, Row, Structure, Takes};
+pub use environment::{Environment, Takes};
 pub use faults::{Findings, is_before, keep};
 pub use judged::{Judged, Literal};
 pub use kinds::{
@@ -22,4 +23,8 @@ pub use kinds::{
     is_argument, is_function, is_integer, is_pointer, is_pointer_or_function, is_scalar, is_struct,
     is_void, level_of, same, widened,
 };
-pub use values::check_value;
+pub use layout::target;
+pub use operations::{chosen, joined, operand_if};
+pub use prefixes::prefixed;
+pub use structures::{Field, Structure, Structures};
+pub use values::{check_value, judge, kind_of_value};

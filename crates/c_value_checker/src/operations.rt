@@ -2,7 +2,7 @@
 
 ghost use Rattle.std.specs.Prelude.{◌≡◌, false};
 ghost use Rattle.c_tree.specs.Checks as spec;
-ghost use Rattle.c_tree.specs.Faults.{outcome_faults};
+ghost use Rattle.c_tree.specs.Faults.{outcome_faults, outcome_kind};
 ghost use Rattle.c_tree.specs.Words.{join};
 ghost use Rattle.c_value_checker.specs.Choices.{all_chosen, chosen_faults, one_chosen};
 ghost use Rattle.c_value_checker.specs.Noted.{noted};
@@ -73,6 +73,19 @@ pub fn combine(
     operand_if(settle(findings, outcome, span))
 }
 
+/// What an operator gives of two operands.
+#[tactic(auto, using(crate::proofs::OutcomeLemmas::told_kind))]
+pub fn joined(
+    environment: &Environment,
+    operator: BinaryOperator,
+    a: Option<Operand>,
+    b: Option<Operand>,
+) -> Option<Operand>
+    ensures { result ≡ spec.joined (seen environment.now) operator a b }
+{
+    operand_if(join_outcome(environment, operator, a, b).kind())
+}
+
 fn choice_outcome(test: Option<Kind>, yes: Option<Operand>, no: Option<Operand>) -> Outcome
     ensures { result ≡ told (spec.choice_outcome test yes no) }
 {
@@ -86,6 +99,14 @@ fn choice_outcome(test: Option<Kind>, yes: Option<Operand>, no: Option<Operand>)
         }
         _ => Outcome::Silent,
     }
+}
+
+/// What a choice gives of its last two.
+#[tactic(auto, using(crate::proofs::OutcomeLemmas::told_kind))]
+pub fn chosen(test: Option<Kind>, yes: Option<Operand>, no: Option<Operand>) -> Option<Operand>
+    ensures { result ≡ spec.operand_if (outcome_kind (spec.choice_outcome test yes no)) false }
+{
+    operand_if(choice_outcome(test, yes, no).kind())
 }
 
 fn choose_one(

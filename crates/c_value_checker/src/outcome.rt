@@ -22,6 +22,18 @@ pub enum Outcome {
     Silent,
 }
 
+impl Outcome {
+    /// The kind of a part.
+    pub fn kind(self) -> Option<Kind>
+        ensures { result ≡ kind_told self }
+    {
+        match self {
+            Outcome::Gives(kind) => Some(kind),
+            _ => None,
+        }
+    }
+}
+
 /// A kind, where a test holds.
 pub fn given_if(test: bool, kind: Kind) -> Outcome
     ensures { result ≡ told (outcome (given_if test kind)) }

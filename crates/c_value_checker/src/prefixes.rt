@@ -3,7 +3,7 @@
 ghost use Rattle.std.specs.Prelude.{◌≡◌, [], ◌∷◌, IfOk, OnOk};
 ghost use Rattle.c_tree.specs.Checks as spec;
 ghost use Rattle.c_tree.specs.Env.{kind_of};
-ghost use Rattle.c_tree.specs.Faults.{on, Gives};
+ghost use Rattle.c_tree.specs.Faults.{on, outcome_kind, Gives};
 ghost use Rattle.c_tree.specs.Kinds.{pointer_to};
 ghost use Rattle.c_value_checker.specs.Noted.{noted};
 ghost use Rattle.c_value_checker.specs.Outcomes.{told};
@@ -73,6 +73,19 @@ fn prefix_outcome(
         None => Ok(Outcome::Silent),
         Some(kind) => prefix_of(environment, prefix, kind),
     }
+}
+
+/// The kind that an operator gives of one.
+#[tactic(auto, using(crate::proofs::OutcomeLemmas::told_kind))]
+pub fn prefixed(
+    environment: &Environment,
+    prefix: &Prefix,
+    kind: Option<Kind>,
+) -> Result<Option<Kind>, Memory>
+    ensures { IfOk result (λ after. after ≡ outcome_kind (on kind (spec.prefix_by (seen environment.now) prefix.now))) }
+{
+    let outcome = prefix_outcome(environment, prefix, kind)?;
+    Ok(outcome.kind())
 }
 
 fn check_cast(environment: &Environment, findings: &mut Findings, prefix: &Prefix)

@@ -1,120 +1,112 @@
 // Names in scopes.
 
-ghost use Rattle.std.specs.Prelude.{◌≡◌, [], ◌∷◌, ◌++◌, OnOk, is_some, take};
-ghost use Rattle.c_tree.specs.Env.{declare, found, found_in, innermost, opened};
+ghost use Rattle.std.specs.Prelude.{◌≡◌, OnOk, is_some, length, reverse};
+ghost use Rattle.c_tree.specs.Env.{declare, found, found_in, innermost, opened, with_entry};
 ghost use Rattle.c_tree.specs.Rules.{twice_here};
-ghost use Rattle.c_value_checker.specs.Extends.{Extends};
 ghost use Rattle.c_value_checker.specs.Noted.{noted};
-ghost use Rattle.c_value_checker.specs.Seen.{grown, is_begin, row_sort, seen};
+ghost use Rattle.c_value_checker.specs.Seen.{begin_of, closed, one_more, seen};
 
-use crate::environment::{Environment, Row};
+use crate::environment::Environment;
 use crate::faults::Findings;
 use c_tree::{Name, Sort};
-use sqlite_items::Items;
-use std::alloc::Global;
 use vg_base::Memory;
 
-fn row_sort(row: &Row, name: &[u8]) -> Option<Sort>
-    ensures { result ≡ row_sort row.now name.now }
-{
-    match row {
-        Row::Begin => None,
-        Row::Entry(text, sort) => {
-            if text.as_slice() == name {
-                Some(*sort)
-            } else {
-                None
-            }
-        }
-    }
-}
-
-fn is_begin(row: &Row) -> bool
-    ensures { result ≡ is_begin row.now }
-{
-    matches!(row, Row::Begin)
-}
-
-fn find_in(mut rows: &[Row], name: &[u8]) -> Option<Sort>
-    ensures { result ≡ found (grown [] rows.entry.now) name.now }
-{
-    while let [rest @ .., last] = rows {
-        match row_sort(last, name) {
-            Some(sort) => return Some(sort),
-            None => rows = rest,
-        }
-    }
-    None
-}
-
-// Back to where the innermost scope begins.
-fn find_innermost(mut rows: &[Row], name: &[u8]) -> Option<Sort>
-    ensures { result ≡ found_in (innermost (grown [] rows.entry.now)) name.now }
-{
-    while let [rest @ .., last] = rows {
-        if is_begin(last) {
-            return None;
-        }
-        match row_sort(last, name) {
-            Some(sort) => return Some(sort),
-            None => rows = rest,
-        }
-    }
-    None
-}
-
-// The first so many rows.
-fn truncate(rows: &mut Items<Row>, count: usize)
-    ensures { rows.new ≡ take count rows.old }
-{
-    while rows.len() > count {
-        let _ = rows.pop();
-    }
-}
-
-impl Environment {
+impl<'n> Environment<'n> {
     /// What a name stands for: the innermost scope that has it decides.
     pub fn find(&self, name: &Name) -> Option<Sort>
         ensures { result ≡ found (seen self.now).scopes name.now.text }
     {
-        find_in(self.rows.as_slice(), name.text.as_slice())
+        self.find_text(name.text.as_slice())
+    }
+
+    /// The same of a name by its text.
+    #[tactic(auto, using(crate::proofs::ScopeLemmas::found_cut))]
+    pub fn find_text(&self, text: &[u8]) -> Option<Sort>
+        ensures { result ≡ found (seen self.now).scopes text.now }
+    {
+        match self.names.find(text) {
+            None => None,
+            Some(found) => Some(found.meaning),
+        }
+    }
+
+    // How many names stand in front of the innermost scope.
+    #[tactic(auto, using(crate::proofs::ScopeLemmas::last_first))]
+    fn begin(&self) -> usize
+        ensures { result ≡ begin_of (length self.now.names) (reverse self.now.counts.items) }
+    {
+        match self.counts.last() {
+            None => 0,
+            Some(count) => self.names.length().saturating_sub(*count),
+        }
     }
 
     /// Whether the innermost scope has a name.
+    #[tactic(auto, using(crate::proofs::ScopeLemmas::here_cut))]
     pub fn is_here(&self, name: &Name) -> bool
         ensures { result ≡ is_some (found_in (innermost (seen self.now).scopes) name.now.text) }
     {
-        find_innermost(self.rows.as_slice(), name.text.as_slice()).is_some()
+        match self.names.find(name.text.as_slice()) {
+            None => false,
+            Some(found) => self.begin() <= found.position,
+        }
+    }
+
+    // One more name in the innermost scope, which the table has already.
+    #[tactic(auto, using(crate::proofs::ScopeLemmas::last_first))]
+    fn count_name(&mut self) -> Result<(), Memory>
+        ensures others { OnOk result (self.new ≡ record self.old { counts = self.new.counts }) }
+        ensures counts { OnOk result (reverse self.new.counts.items ≡ one_more (reverse self.old.counts.items)) }
+    {
+        let Some(count) = self.counts.pop() else {
+            return Ok(());
+        };
+        let Some(more) = count.checked_add(1) else {
+            return Err(Memory);
+        };
+        match self.counts.push(more) {
+            Ok(()) => Ok(()),
+            Err(_) => Err(Memory),
+        }
+    }
+
+    /// One more name in the innermost scope, by its text.
+    #[tactic(auto, using(crate::proofs::ScopeLemmas::cut_more))]
+    pub fn declare_text(&mut self, text: &'n [u8], sort: Sort) -> Result<(), Memory>
+        ensures { OnOk result (seen self.new ≡ record (seen self.old) { scopes = with_entry (seen self.old).scopes (record { name = text.now; sort = sort }) }) }
+    {
+        self.names.push(text, sort)?;
+        self.count_name()
     }
 
     /// One more name in the innermost scope.
-    #[tactic(auto, using(crate::proofs::ScopeLemmas::grown_last))]
-    pub fn declare(&mut self, alloc: Global, name: &Name, sort: Sort) -> Result<(), Memory>
-        ensures names { OnOk result (seen self.new ≡ declare (seen self.old) name.now sort) }
-        ensures rows { OnOk result (Extends self.old self.new) }
+    pub fn declare(&mut self, name: &'n Name, sort: Sort) -> Result<(), Memory>
+        ensures { OnOk result (seen self.new ≡ declare (seen self.old) name.now sort) }
     {
-        let Ok(text) = Items::from_slice(alloc, name.text.as_slice()) else {
-            return Err(Memory);
-        };
-        self.push(Row::Entry(text, sort))?;
-        Ok(())
+        self.declare_text(name.text.as_slice(), sort)
     }
 
     /// A new scope in all others.
-    #[tactic(auto, using(crate::proofs::ScopeLemmas::grown_last))]
+    #[tactic(auto, using(crate::proofs::ScopeLemmas::last_first))]
     pub fn open(&mut self) -> Result<(), Memory>
-        ensures names { OnOk result (seen self.new ≡ opened (seen self.old)) }
-        ensures rows { OnOk result (Extends self.old self.new) }
+        ensures { OnOk result (seen self.new ≡ opened (seen self.old)) }
     {
-        self.push(Row::Begin)?;
-        Ok(())
+        match self.counts.push(0) {
+            Ok(()) => Ok(()),
+            Err(_) => Err(Memory),
+        }
     }
 
-    /// The names of the first so many rows.
-    pub fn close(&mut self, count: usize)
-        ensures { self.new ≡ record self.old { rows = take count self.old.rows } }
+    /// The innermost scope ends.
+    #[tactic(auto, using(crate::proofs::ScopeLemmas::last_first, crate::proofs::ScopeLemmas::cut_closed))]
+    pub fn close(&mut self)
+        ensures { seen self.new ≡ closed (seen self.old) }
     {
-        truncate(&mut self.rows, count);
+        let Some(count) = self.counts.pop() else {
+            return;
+        };
+        let left = self.names.length().saturating_sub(count);
+        self.names.truncate(left);
     }
 
     /// Notes a name that the innermost scope has already.
@@ -123,15 +115,6 @@ impl Environment {
     {
         if self.is_here(name) {
             findings.twice(name);
-        }
-    }
-
-    fn push(&mut self, row: Row) -> Result<(), Memory>
-        ensures { OnOk result (self.new ≡ record self.old { rows = self.old.rows ++ row ∷ [] }) }
-    {
-        match self.rows.push(row) {
-            Ok(()) => Ok(()),
-            Err(_) => Err(Memory),
         }
     }
 }

@@ -38,6 +38,26 @@ pub fn check_value(
     check_shape(alloc, environment, findings, &value.shape)
 }
 
+/// Which literal a value is, and its kind. Its faults are not asked for.
+pub fn judge(alloc: Global, environment: &Environment, value: &Expr) -> Result<Judged, Memory>
+    ensures { IfOk result (λ found. found ≡ judged (seen environment.now) (spec.checked value.now).value) }
+{
+    let mut ignored = Findings::new(None, 0);
+    check_value(alloc, environment, &mut ignored, value)
+}
+
+/// The kind of a value, if it has one. Its faults are not asked for.
+pub fn kind_of_value(
+    alloc: Global,
+    environment: &Environment,
+    value: &Expr,
+) -> Result<Option<Kind>, Memory>
+    ensures { IfOk result (λ kind. kind ≡ (spec.checked value.now).value.kind (seen environment.now)) }
+{
+    let found = judge(alloc, environment, value)?;
+    Ok(found.kind)
+}
+
 #[cycle(value)]
 fn check_shape(
     alloc: Global,

@@ -7,7 +7,7 @@ use Rattle.c_body_checker.proofs.statements.+statement.Given as goal
 
 abbrev pub invariant-check_stmts-loop-stmt : goal.invariant-check_stmts-loop-stmt
 invariant-check_stmts-loop-stmt l = record {
-  names : l.environment ≡ l.fn.environment;
+  names : seen l.environment ≡ seen l.fn.environment;
   faults : noted l.findings (all_faults (context (seen l.fn.environment) l.gives) (map of_statement (drop l.stmt-index l.stmts))) ≡ noted l.fn.findings
       (all_faults (context (seen l.fn.environment) l.gives) (map of_statement l.stmts));
 }

@@ -1,6 +1,5 @@
 use Rattle.std.proofs.Common.{◌≡◌, drop}
 use Rattle.c_tree.specs.Rules.{locals_faults, with_locals}
-use Rattle.c_value_checker.specs.Extends.{Extends}
 use Rattle.c_value_checker.specs.Noted.{noted}
 use Rattle.c_value_checker.specs.Seen.{seen}
 use Rattle.c_body_checker.proofs.statements.check_locals.Given as goal
@@ -8,7 +7,6 @@ use Rattle.c_body_checker.proofs.statements.check_locals.Given as goal
 abbrev pub invariant-loop-local : goal.invariant-loop-local
 invariant-loop-local l = record {
   names : with_locals (seen l.environment) (drop l.local-index l.locals) ≡ with_locals (seen l.fn.environment) l.locals;
-  rows : Extends l.fn.environment l.environment;
   faults : noted l.findings (locals_faults (seen l.environment) (drop l.local-index l.locals)) ≡ noted l.fn.findings
       (locals_faults (seen l.fn.environment) l.locals);
 }

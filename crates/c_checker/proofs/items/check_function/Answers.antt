@@ -6,8 +6,8 @@ use Rattle.c_checker.proofs.ItemLemmas.{function_noted}
 use Rattle.c_checker.proofs.items.check_function.Goals as goal
 
 pub returns-clause-names : goal.returns-clause-names
-returns-clause-names c = on_ok c.check_function_body.result c.check_function_body.ensures.names (λ e. ap seen e ∙ c.in_ok-add_function.ensures ∙ ap (λ x. with_function (seen x) c.args.function.now.signature true) c.in_ok-check_head.ensures.names)
+returns-clause-names c = on_ok c.check_function_body.result c.check_function_body.ensures.names (λ e. e ∙ c.in_ok-add_function.ensures ∙ ap (λ x. with_function x c.args.function.now.signature true) c.in_ok-check_head.ensures.names)
 
 pub returns-clause-faults : goal.returns-clause-faults
 returns-clause-faults c = on_ok c.check_function_body.result c.check_function_body.ensures.faults (λ e. function_noted (seen c.args.environment.now) (seen c.check_head.new.environment) (seen c.add_function.new.environment) c.args.function.now c.args.findings.now c.check_head.new.findings c.check_function_body.new.findings
-    (ap seen c.in_ok-check_head.ensures.names) c.in_ok-check_head.ensures.faults c.in_ok-add_function.ensures e)
+    c.in_ok-check_head.ensures.names c.in_ok-check_head.ensures.faults c.in_ok-add_function.ensures e)

@@ -8,6 +8,6 @@ use Rattle.c_checker.proofs.FunctionLemmas.{type_added}
 use Rattle.c_checker.proofs.signatures.add_function_type.Goals as goal
 
 pub returns : goal.returns
-returns c = on_ok c.declare.result c.declare.ensures.names (λ e. type_added (seen c.args.environment.now) (seen c.add_signature.new.environment) (seen c.declare.new.self) c.args.signature.now (takes_seen c.in_ok-takes.takes) c.in_ok-number.number
+returns c = on_ok c.declare.result c.declare.ensures (λ e. type_added (seen c.args.environment.now) (seen c.add_signature.new.environment) (seen c.declare.new.self) c.args.signature.now (takes_seen c.in_ok-takes.takes) c.in_ok-number.number
     c.in_ok-takes.ensures c.in_ok-number.ensures.names c.in_ok-number.ensures.number
     (e ∙ ap (λ k. declare (seen c.add_signature.new.environment) c.args.signature.now.name (sort.Type k)) c.plain.ensures))

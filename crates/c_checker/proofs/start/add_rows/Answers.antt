@@ -7,6 +7,6 @@ use Rattle.c_checker.proofs.start.add_rows.Goals as goal
 pub loop-rows-preserved : goal.loop-rows-preserved
 loop-rows-preserved c = record {
   within = grind (arith, common_steps, c.loop-rows.invariant.within);
-  names = row_turn c.loop-rows.rows.now _ (get_or c.loop-rows.rows.now (length c.loop-rows.rows.now - 1) no_row) c.in_ok-number.number (seen c.loop-rows.environment) (seen c.push_name.new.environment)
-      (ends_in c.loop-rows.rows.now no_row c.in-len1-up.len_at_least) c.in_ok-number.ensures c.in_ok-push_name.ensures ∙ c.loop-rows.invariant.names;
+  names = row_turn c.loop-rows.rows.now _ (get_or c.loop-rows.rows.now (length c.loop-rows.rows.now - 1) no_row) c.in_ok-number.number (seen c.loop-rows.environment) (seen c.declare_text.new.self)
+      (ends_in c.loop-rows.rows.now no_row c.in-len1-up.len_at_least) c.in_ok-number.ensures c.in_ok-declare_text.ensures ∙ c.loop-rows.invariant.names;
 }

@@ -1,6 +1,6 @@
 use Rattle.std.proofs.Common.{refl, get_or, map}
 use Rattle.c_checker.specs.Tables.{field_row}
-use Rattle.c_value_checker.specs.Seen.{field_seen}
+use Rattle.c_value_checker.specs.Structures.{field_seen}
 use Rattle.c_body_checker.proofs.CallLemmas.{at_place}
 use Rattle.c_checker.proofs.StartLemmas.{no_named}
 use Rattle.c_checker.proofs.Steps.{kept_step}

@@ -1,6 +1,6 @@
 use Rattle.std.proofs.Common.{◌≡◌, ◌++◌, drop, map}
 use Rattle.c_checker.specs.Tables.{field_row}
-use Rattle.c_value_checker.specs.Seen.{field_seen}
+use Rattle.c_value_checker.specs.Structures.{field_seen}
 use Rattle.c_checker.proofs.start.fields_of.Given as goal
 
 abbrev pub invariant-loop-row : goal.invariant-loop-row

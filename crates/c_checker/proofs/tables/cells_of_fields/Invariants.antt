@@ -1,6 +1,7 @@
 use Rattle.std.proofs.Common.{◌≡◌, ◌+◌, ◌^◌, min, drop, map}
 use Rattle.c_tree.specs.Unit.{fields_cells}
-use Rattle.c_value_checker.specs.Seen.{field_seen, seen}
+use Rattle.c_value_checker.specs.Seen.{seen}
+use Rattle.c_value_checker.specs.Structures.{field_seen}
 use Rattle.c_checker.proofs.tables.cells_of_fields.Given as goal
 
 abbrev pub invariant-loop-field : goal.invariant-loop-field

@@ -3,7 +3,8 @@ use Rattle.std.proofs.Common.{refl}
 use Rattle.c_tree.specs.declared.code.Local.{Local}
 use Rattle.c_tree.specs.Env.{kind_of}
 use Rattle.c_tree.specs.Unit.{fields_declared}
-use Rattle.c_value_checker.specs.Seen.{field_seen, seen}
+use Rattle.c_value_checker.specs.Seen.{seen}
+use Rattle.c_value_checker.specs.Structures.{field_seen}
 use Rattle.c_checker.proofs.Steps.{kept_step}
 use Rattle.c_checker.proofs.tables.fields_of.Goals as goal
 

@@ -1,6 +1,7 @@
 use Rattle.std.proofs.Common.{◌≡◌, ◌++◌, drop, map}
 use Rattle.c_tree.specs.Unit.{fields_declared}
-use Rattle.c_value_checker.specs.Seen.{field_seen, seen}
+use Rattle.c_value_checker.specs.Seen.{seen}
+use Rattle.c_value_checker.specs.Structures.{field_seen}
 use Rattle.c_checker.proofs.tables.fields_of.Given as goal
 
 abbrev pub invariant-loop-local : goal.invariant-loop-local

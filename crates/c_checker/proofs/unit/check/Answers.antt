@@ -9,4 +9,4 @@ use Rattle.c_checker.proofs.unit.check.Goals as goal
 
 pub returns : goal.returns
 returns c = first_of c.args.least c.args.last c.check_items.new.findings (items_faults checked (checked_block checked) library c.args.unit.now.items)
-    (c.in_ok-check_items.ensures ∙ (λ i. noted (record { first = c.args.least; last = c.args.last; floor = 0 }) (items_faults checked (checked_block checked) (c.in_ok-environment.ensures i) (c.as_slice.ensures i))))
+    (c.in_ok-check_items.ensures ∙ (λ i. noted (c.new-findings.ensures i) (items_faults checked (checked_block checked) (c.in_ok-environment.ensures i) (c.as_slice.ensures i))))

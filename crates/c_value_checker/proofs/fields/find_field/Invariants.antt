@@ -1,6 +1,6 @@
 use Rattle.std.proofs.Common.{◌≡◌, drop, map}
 use Rattle.c_tree.specs.Env.{field_named}
-use Rattle.c_value_checker.specs.Seen.{field_seen}
+use Rattle.c_value_checker.specs.Structures.{field_seen}
 use Rattle.c_value_checker.proofs.fields.find_field.Given as goal
 
 abbrev pub invariant-loop-field : goal.invariant-loop-field
