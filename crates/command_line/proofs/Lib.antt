@@ -1,0 +1,5 @@
+pub mod Names
+pub mod FromClap
+pub mod Steps
+pub mod Examples
+pub mod Bounds

@@ -1,0 +1,10 @@
+use Rattle.std.proofs.Common.{◌∙◌, ap, ap₂}
+use Rattle.std.proofs.lemmas.Result.{IfOk-weaker}
+use Rattle.clap.specs.Words.{with_rule}
+use Rattle.command_line.proofs.line.with_flags.Goals as goal
+
+pub returns : goal.returns
+returns c =
+    let first = c.in_ok-arg.ensures.shape c.flag.ensures.local ∙ ap (with_rule _) c.flag.ensures.rule in
+    let second = c.in_ok-arg-2.ensures.shape c.flag-2.ensures.local ∙ ap₂ with_rule first c.flag-2.ensures.rule in
+    IfOk-weaker c.arg-3.result _ _ (λ line added. added.shape c.flag-3.ensures.local ∙ ap₂ with_rule second c.flag-3.ensures.rule) c.arg-3.ensures

@@ -1,0 +1,6 @@
+pub mod Line
+pub mod Names
+pub mod Given
+pub mod Meaning
+pub mod Answers
+pub mod Laws
