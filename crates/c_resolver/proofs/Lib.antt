@@ -1,0 +1,12 @@
+mod PartLemmas
+mod StepLemmas
+mod ListLemmas
+mod PlanLemmas
+mod CallLemmas
+mod ScopeLemmas
+mod CodeLemmas
+mod NameLemmas
+mod LibraryLemmas
+mod RowLemmas
+mod BodyLemmas
+mod RoutineLemmas
