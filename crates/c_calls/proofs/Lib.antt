@@ -1,0 +1,4 @@
+pub mod Unfold
+pub mod Names
+pub mod Statements
+pub mod Items
