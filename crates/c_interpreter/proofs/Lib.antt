@@ -1,0 +1,5 @@
+pub mod StepCounts
+pub mod CourseLaws
+pub mod Fronts
+pub mod Rows
+pub mod RunLaws
