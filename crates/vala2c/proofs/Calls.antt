@@ -11,14 +11,15 @@ use Rattle.vg_base.specs.declared.event.Stream.TheVariants as to
 use Rattle.vg_base.specs.Outside.{FolderView, SinkView, IsRead, IsWrite, Rose}
 use Rattle.vg_base.specs.World.{World}
 use Rattle.vg_base.specs.Headline.{printed}
-use Rattle.c_reader.specs.Dialect.{Texts}
-use Rattle.c_reader.specs.CMeaning.{CRun, CState, c_opening}
-use Rattle.c_machine.specs.declared.run.RunEnd.{RunEnd}
-use Rattle.c_machine.specs.declared.run.RunEnd.TheVariants.{Done, Spent}
-use Rattle.c_machine.specs.declared.run.RunFault.{RunFault}
-use Rattle.c_machine.specs.declared.run.RunFault.TheVariants as run
-use Rattle.c_machine.specs.Kept.{Kept, point}
-use Rattle.c_machine.specs.Runs.{Sinks, Runs, Refused, Finished, TookFront, TookFronts, end_of}
+use Rattle.c_tree.specs.declared.unit.Unit.{Unit as CUnit}
+use Rattle.c_meaning.specs.State
+use Rattle.c_meaning.specs.Runs.{CRun}
+use Rattle.c_interpreter.specs.declared.run.RunEnd.{RunEnd}
+use Rattle.c_interpreter.specs.declared.run.RunEnd.TheVariants.{Done, Spent}
+use Rattle.c_interpreter.specs.declared.run.RunFault.{RunFault}
+use Rattle.c_interpreter.specs.declared.run.RunFault.TheVariants as run
+use Rattle.c_interpreter.specs.Kept.{Kept, state_of}
+use Rattle.c_interpreter.specs.Runs.{Sinks, Runs, Refused, Finished, TookFront, TookFronts, end_of}
 use Rattle.vg_base.proofs.OutsideLaws.{takes_none}
 use Rattle.static_rules.specs.declared.rules.Refusal.{Refusal}
 use Rattle.vala2c.specs.declared.status.Kind.{Kind}
@@ -35,8 +36,8 @@ use Rattle.vala2c.proofs.Causes.{whole}
 
 -- 1. The run of a unit
 
-abbrev pub loaded : Texts → World → Kept
-loaded unit w = record { unit = unit; world = w; state = c_opening; done = 0; exhausted = false }
+abbrev pub loaded : CUnit → World → Kept
+loaded unit w = record { unit = unit; world = w; done = 0; keeps = false; exhausted = false }
 
 -- the status of what a run answers
 abbrev pub kind_of_answer : Result RunEnd RunFault → Kind
@@ -56,60 +57,60 @@ spent_has (Some x) h = cc
 front : (old new : SinkView) (bytes : List ℕ) → TookFront old bytes new → TakesFront bytes old new
 front old new bytes t = (t.front, t.begins, t.took, t.faults)
 
-one_rose : (unit : Texts) (w : World) (n : ℕ) (before after : Sinks) (new : Kept) (stream : _) (taken : ℕ)
-    → Refused unit (point (loaded unit w)) n before stream taken (point new) after → Rose before.out.faults after.out.faults ⊎ Rose before.err.faults after.err.faults
+one_rose : (unit : CUnit) (w : World) (n : ℕ) (before after : Sinks) (new : Kept) (stream : _) (taken : ℕ)
+    → Refused (loaded unit w) n before stream taken new after → Rose before.out.faults after.out.faults ⊎ Rose before.err.faults after.err.faults
 one_rose unit w n before after new to.Out taken r = inl r.rose
 one_rose unit w n before after new to.Err taken r = inr r.rose
 
 -- What n steps print was put. The number of steps is a variable here and below, so that no proof counts them.
-abbrev PutAll : Texts → World → ℕ → SinkView → SinkView → SinkView → SinkView → Type 0
+abbrev PutAll : CUnit → World → ℕ → SinkView → SinkView → SinkView → SinkView → Type 0
 PutAll unit w n o o' e e' =
     TakesAll (printed to.Out ((CRun unit w).trace n)) o o' × TakesAll (printed to.Err ((CRun unit w).trace n)) e e'
 
 -- or a front of it
-abbrev PutFront : Texts → World → ℕ → SinkView → SinkView → SinkView → SinkView → Type 0
+abbrev PutFront : CUnit → World → ℕ → SinkView → SinkView → SinkView → SinkView → Type 0
 PutFront unit w n o o' e e' =
     TakesFront (printed to.Out ((CRun unit w).trace n)) o o' × TakesFront (printed to.Err ((CRun unit w).trace n)) e e'
 
-all_put : (unit : Texts) (w : World) (n : ℕ) (new : Kept) (before after : Sinks) → Finished unit (point (loaded unit w)) n before (point new) after
+all_put : (unit : CUnit) (w : World) (n : ℕ) (new : Kept) (before after : Sinks) → Finished (loaded unit w) n before new after
     → PutAll unit w n before.out after.out before.err after.err
 all_put unit w n new before after f = ((f.took to.Out, f.faults to.Out), (f.took to.Err, f.faults to.Err))
 
-front_put : (unit : Texts) (w : World) (n : ℕ) (before after : Sinks) → TookFronts unit c_opening n before after → PutFront unit w n before.out after.out before.err after.err
+front_put : (unit : CUnit) (w : World) (n : ℕ) (before after : Sinks) → TookFronts (loaded unit w) n before after → PutFront unit w n before.out after.out before.err after.err
 front_put unit w n before after f =
     (front before.out after.out (printed to.Out ((CRun unit w).trace n)) (f to.Out), front before.err after.err (printed to.Err ((CRun unit w).trace n)) (f to.Err))
 
-end_is : (unit : Texts) (w : World) (n : ℕ) (new : Kept) (before after : Sinks) (o : Option CEnd) → Finished unit (point (loaded unit w)) n before (point new) after
-    → new.state.ended ≡ o → (CRun unit w).ended n ≡ o
-end_is unit w n new before after o f e = ap (λ (s : CState). s.ended) (sym f.state) ∙ e
+end_is : (unit : CUnit) (w : World) (n : ℕ) (new : Kept) (before after : Sinks) (o : Option CEnd) → Finished (loaded unit w) n before new after
+    → (state_of new).ended ≡ o → (CRun unit w).ended n ≡ o
+end_is unit w n new before after o f e = ap (λ (s : State.State). s.ended) (sym f.state) ∙ e
 
-ended_in : (unit : Texts) (w : World) (n : ℕ) (o o' e e' : SinkView) (end : CEnd) → n ≡ budget → (CRun unit w).ended n ≡ Some end → PutAll unit w n o o' e e'
+ended_in : (unit : CUnit) (w : World) (n : ℕ) (o o' e e' : SinkView) (end : CEnd) → n ≡ budget → (CRun unit w).ended n ≡ Some end → PutAll unit w n o o' e e'
     → Ran unit w o o' e e' (kind_of_end end)
 ended_in unit w n o o' e e' end is h put =
     let all = subst (λ m. PutAll unit w m o o' e e') is put in
     course.ended end (subst (λ m. (CRun unit w).ended m ≡ Some end) is h) all.0 all.1
 
-spent_in : (unit : Texts) (w : World) (n : ℕ) (o o' e e' : SinkView) → n ≡ budget → (CRun unit w).ended n ≡ None → PutAll unit w n o o' e e' → Ran unit w o o' e e' kind.StepsSpent
+spent_in : (unit : CUnit) (w : World) (n : ℕ) (o o' e e' : SinkView) → n ≡ budget → (CRun unit w).ended n ≡ None → PutAll unit w n o o' e e' → Ran unit w o o' e e' kind.StepsSpent
 spent_in unit w n o o' e e' is h put =
     let all = subst (λ m. PutAll unit w m o o' e e') is put in
     course.spent (subst (λ m. (CRun unit w).ended m ≡ None) is h) all.0 all.1
 
-refused_in : (unit : Texts) (w : World) (n : ℕ) (o o' e e' : SinkView) → n ≡ budget → PutFront unit w n o o' e e' → Rose o.faults o'.faults ⊎ Rose e.faults e'.faults
+refused_in : (unit : CUnit) (w : World) (n : ℕ) (o o' e e' : SinkView) → n ≡ budget → PutFront unit w n o o' e e' → Rose o.faults o'.faults ⊎ Rose e.faults e'.faults
     → Ran unit w o o' e e' kind.OutFault
 refused_in unit w n o o' e e' is put rose =
     let front = subst (λ m. PutFront unit w m o o' e e') is put in course.refused front.0 front.1 rose
 
-memory_in : (unit : Texts) (w : World) (n : ℕ) (o o' e e' : SinkView) → n ≡ budget → PutFront unit w n o o' e e' → Ran unit w o o' e e' kind.Memory
+memory_in : (unit : CUnit) (w : World) (n : ℕ) (o o' e e' : SinkView) → n ≡ budget → PutFront unit w n o o' e e' → Ran unit w o o' e e' kind.Memory
 memory_in unit w n o o' e e' is put =
     let front = subst (λ m. PutFront unit w m o o' e e') is put in course.memory front.0 front.1
 
-pub ran : (unit : Texts) (w : World) (n : ℕ) (new : Kept) (answer : Result RunEnd RunFault) (before after : Sinks) → n ≡ budget → Runs (loaded unit w) n before answer new after
+pub ran : (unit : CUnit) (w : World) (n : ℕ) (new : Kept) (answer : Result RunEnd RunFault) (before after : Sinks) → n ≡ budget → Runs (loaded unit w) n before answer new after
     → Ran unit w before.out after.out before.err after.err (kind_of_answer answer)
 ran unit w n new (Ok (Done e)) before after is r =
-    let end = end_is unit w n new before after (Some e) r.by_answer (done_has new.state.ended e r.answered) in
+    let end = end_is unit w n new before after (Some e) r.by_answer (done_has (state_of new).ended e r.answered) in
     ended_in unit w n before.out after.out before.err after.err e is end (all_put unit w n new before after r.by_answer)
 ran unit w n new (Ok Spent) before after is r =
-    let end = end_is unit w n new before after None r.by_answer (spent_has new.state.ended r.answered) in
+    let end = end_is unit w n new before after None r.by_answer (spent_has (state_of new).ended r.answered) in
     spent_in unit w n before.out after.out before.err after.err is end (all_put unit w n new before after r.by_answer)
 ran unit w n new (Err (run.Out stream taken)) before after is r =
     let rose = one_rose unit w n before after new stream taken r.by_answer in
@@ -120,10 +121,10 @@ ran unit w n new (Err run.Memory) before after is r = memory_in unit w n before.
 untouched : (bytes : List ℕ) (s : SinkView) → TakesFront bytes s s
 untouched bytes s = ([], (bytes, refl), takes_none s s refl, omega arith)
 
-pub not_loaded : (unit : Texts) (w : World) (o e : SinkView) → Ran unit w o o e e kind.Memory
+pub not_loaded : (unit : CUnit) (w : World) (o e : SinkView) → Ran unit w o o e e kind.Memory
 not_loaded unit w o e = course.memory (untouched (prints_out unit w) o) (untouched (prints_err unit w) e)
 
-pub ran_loaded : (unit : Texts) (w : World) (n : ℕ) (old new : Kept) (answer : Result RunEnd RunFault) (before after : Sinks) → n ≡ budget → old ≡ loaded unit w → Runs old n before answer new after
+pub ran_loaded : (unit : CUnit) (w : World) (n : ℕ) (old new : Kept) (answer : Result RunEnd RunFault) (before after : Sinks) → n ≡ budget → old ≡ loaded unit w → Runs old n before answer new after
     → Ran unit w before.out after.out before.err after.err (kind_of_answer answer)
 ran_loaded unit w n old new answer before after is e r =
     ran unit w n new answer before after is (subst (λ m. Runs m n before answer new after) e r)

@@ -7,24 +7,20 @@ use Rattle.vg_base.specs.declared.outside.Call.TheVariants.{Read, Write}
 use Rattle.vg_base.specs.declared.event.CEnd.{CEnd}
 use Rattle.vg_base.specs.declared.event.CEnd.TheVariants as c
 use Rattle.vg_base.specs.declared.event.UndefKind.TheVariants as u
-use Rattle.vg_base.specs.declared.event.Stream.TheVariants as stream
 use Rattle.vg_base.specs.Outside.{FolderView, SinkView, IsRead, IsWrite, Takes, Rose}
 use Rattle.vg_base.specs.Run.{Begins}
 use Rattle.vg_base.specs.World.{World}
-use Rattle.vg_base.specs.Headline.{printed}
 use Rattle.vg_base.proofs.OutsideLaws.{takes_none, takes_both}
 use Rattle.vg_base.proofs.RunLaws.{begins_refl}
-use Rattle.c_reader.specs.Dialect.{Texts}
-use Rattle.c_reader.specs.CMeaning.{CRun}
+use Rattle.c_tree.specs.declared.unit.Unit.{Unit as CUnit}
 use Rattle.vala2c.specs.declared.status.Kind.{Kind}
 use Rattle.vala2c.specs.declared.status.Kind.TheVariants as kind
 use Rattle.vala2c.specs.declared.status.Status.{Status}
 use Rattle.vala2c.specs.Words.{IsRun, IsCheck, NamesFiles, c_file, world_of}
 use Rattle.vala2c.specs.Status.{line_of, kind_of_end, unheard}
-use Rattle.vala2c.specs.Course.{Chain, TakesAll, TakesFront, Ran, AllRead, FrontRead, ReadUpTo, IsBuilt, IsPlanned, Goes, Closes, Finishes, CallBy, IsCall, budget, prints_out, prints_err}
+use Rattle.vala2c.specs.Course.{Chain, TakesAll, TakesFront, Ran, AllRead, FrontRead, ReadUpTo, IsBuilt, IsPlanned, Goes, Closes, Finishes, IsCall, prints_out, prints_err}
 use Rattle.vala2c.specs.Course as course
-use Rattle.vala2c.specs.Causes.{IsOutside, IsFileOf, SpeaksOf, Says, TakesLine, IsOfRun, IsOfCheck, Causes, last_of}
-use Rattle.vala2c.proofs.Quiet.{nothing_on_err}
+use Rattle.vala2c.specs.Causes.{IsOutside, IsFileOf, SpeaksOf, Says, SaysBehind, TakesLine, AreOfRun, IsOfRun, IsOfCheck, Causes, last_of}
 use Rattle.vala2c.proofs.Reading.{one_command, is_file, entries, entries_behind, entries_same, last_behind, IsFine, last_read}
 use Rattle.vala2c.proofs.Rules.{named_by}
 
@@ -121,7 +117,7 @@ memory_no_fault : kind.Memory ≢ kind.OutFault
 memory_no_fault h = cc
 
 -- what a run says of its status and its sinks, whichever way it went
-pub record RanSo (unit : Texts) (w : World) (o o' e e' : SinkView) (k : Kind) : Type 0 where
+pub record RanSo (unit : CUnit) (w : World) (o o' e e' : SinkView) (k : Kind) : Type 0 where
   pub speaks : SpeaksOfNothing k
   pub is_of_run : IsOfRun k ⊎ (k ≡ kind.Memory)
   pub fault : k ≡ kind.OutFault → Rose o.faults o'.faults ⊎ Rose e.faults e'.faults
@@ -131,7 +127,7 @@ pub record RanSo (unit : Texts) (w : World) (o o' e e' : SinkView) (k : Kind) : 
 all_front : (bytes : List ℕ) (s s' : SinkView) → TakesAll bytes s s' → TakesFront bytes s s'
 all_front bytes s s' t = (bytes, begins_refl bytes, t.0, t.1)
 
-pub ran_so : (unit : Texts) (w : World) (o o' e e' : SinkView) (k : Kind) → Ran unit w o o' e e' k → RanSo unit w o o' e e' k
+pub ran_so : (unit : CUnit) (w : World) (o o' e e' : SinkView) (k : Kind) → Ran unit w o o' e e' k → RanSo unit w o o' e e' k
 ran_so unit w o o' e e' k (course.ended end is out err) =
     record { speaks = end_speaks end; is_of_run = inl (end_of_run end); fault = λ h. absurd (end_no_fault end h); out = all_front _ o o' out; err = all_front _ e e' err }
 ran_so unit w o o' e e' k (course.spent is out err) =
@@ -141,50 +137,47 @@ ran_so unit w o o' e e' k (course.refused out err rose) =
 ran_so unit w o o' e e' k (course.memory out err) =
     record { speaks = λ words named source. tt; is_of_run = inr refl; fault = λ h. absurd (memory_no_fault h); out = out; err = err }
 
-nothing_begins : (front bytes : List ℕ) → bytes ≡ [] → Begins front bytes → front ≡ []
+pub nothing_begins : (front bytes : List ℕ) → bytes ≡ [] → Begins front bytes → front ≡ []
 nothing_begins [] bytes is b = refl
 nothing_begins (x ∷ front) bytes is b = let e : x ∷ (front ++ b.0) ≡ [] = b.1 ∙ is in cc
 
--- err took nothing
-pub nothing_took : (unit : Texts) (w : World) (limit : ℕ) (e e' : SinkView) → TakesFront (printed stream.Err ((CRun unit w).trace limit)) e e' → Takes e [] e'
-nothing_took unit w limit e e' t = subst (λ l. Takes e l e') (nothing_begins t.0 _ (nothing_on_err unit w limit) t.1) t.2
-
 -- 4. How a call goes: its sinks before the message line
 
-pub record SinksSo (o o' e e' : SinkView) (k : Kind) : Type 0 where
+pub record SinksSo (words : List (List ℕ)) (o o' e e' : SinkView) (k : Kind) : Type 0 where
   pub out_faults : o.faults ≤ o'.faults
   pub err_faults : e.faults ≤ e'.faults
-  pub nothing : Takes e [] e'
+  pub took : (bytes : List ℕ) × Takes e bytes e'
+  pub nothing : (AreOfRun words → IsOfRun k → ⊥) → k ≢ kind.Memory → Takes e [] e'
   pub fault : k ≡ kind.OutFault → Rose o.faults o'.faults ⊎ Rose e.faults e'.faults
   pub silent : (IsOfRun k → ⊥) → k ≢ kind.Memory → o' ≡ o
 
-untouched : (o e : SinkView) (k : Kind) → k ≢ kind.OutFault → SinksSo o o e e k
-untouched o e k not =
-    record { out_faults = omega arith; err_faults = omega arith; nothing = takes_none e e refl; fault = λ h. absurd (not h); silent = λ a b. refl }
+untouched : (words : List (List ℕ)) (o e : SinkView) (k : Kind) → k ≢ kind.OutFault → SinksSo words o o e e k
+untouched words o e k not =
+    record { out_faults = omega arith; err_faults = omega arith; took = ([], takes_none e e refl); nothing = λ a b. takes_none e e refl; fault = λ h. absurd (not h); silent = λ a b. refl }
 
 not_silent : {A : Type 0} (k : Kind) → IsOfRun k ⊎ (k ≡ kind.Memory) → (IsOfRun k → ⊥) → k ≢ kind.Memory → A
 not_silent k (inl h) a b = absurd (a h)
 not_silent k (inr h) a b = absurd (b h)
 
-ran_sinks : (unit : Texts) (w : World) (o o' e e' : SinkView) (k : Kind) → RanSo unit w o o' e e' k → SinksSo o o' e e' k
-ran_sinks unit w o o' e e' k r =
-    record { out_faults = r.out.3; err_faults = r.err.3; nothing = nothing_took unit w budget e e' r.err; fault = r.fault; silent = λ a b. not_silent k r.is_of_run a b }
+ran_sinks : (words : List (List ℕ)) (unit : CUnit) (w : World) (o o' e e' : SinkView) (k : Kind) → AreOfRun words → RanSo unit w o o' e e' k → SinksSo words o o' e e' k
+ran_sinks words unit w o o' e e' k of r =
+    record { out_faults = r.out.3; err_faults = r.err.3; took = (r.err.0, r.err.2); nothing = λ a b. not_silent k r.is_of_run (a of) b; fault = r.fault; silent = λ a b. not_silent k r.is_of_run a b }
 
 accepted_no_fault : kind.Ended (pos 0) ≢ kind.OutFault
 accepted_no_fault h = cc
 
-pub goes_sinks : (words : List (List ℕ)) (o e : SinkView) (calls : List Call) (o' e' : SinkView) (k : Kind) (named source : List ℕ) → Goes words o e calls o' e' k named source → SinksSo o o' e e' k
-goes_sinks words o e calls o' e' k named source (course.usage n s none) = untouched o e kind.Usage (λ h. cc)
-goes_sinks words o e calls o' e' k named source (course.no_file fs f rs is up) = untouched o e kind.NoFile (λ h. cc)
-goes_sinks words o e calls o' e' k named source (course.unread fs f rs is up) = untouched o e kind.ReadFault (λ h. cc)
-goes_sinks words o e calls o' e' k named source (course.refused fs ss rs r all b) = untouched o e (kind.Refused r) (λ h. cc)
-goes_sinks words o e calls o' e' k named source (course.accepted fs ss rs n s is all h) = untouched o e (kind.Ended (pos 0)) accepted_no_fault
-goes_sinks words o e calls o' e' k named source (course.unwritten fs rs c h) = untouched o e kind.WriteFault (λ h. cc)
-goes_sinks words o e calls o' e' k named source (course.gone fs rs c h) = untouched o e kind.NoFile (λ h. cc)
-goes_sinks words o e calls o' e' k named source (course.unread_back fs rs c h) = untouched o e kind.ReadFault (λ h. cc)
-goes_sinks words o e calls o' e' k named source (course.c_refused fs rs c b r h a) = untouched o e (kind.CRefused r) (λ h. cc)
-goes_sinks words o e calls o' e' k named source (course.ran fs rs c b unit p q l n t h a r) = ran_sinks unit (world_of fs) o o' e e' k (ran_so unit (world_of fs) o o' e e' k r)
-goes_sinks words o e calls o' e' k named source (course.memory cs n s p) = untouched o e kind.Memory memory_no_fault
+pub goes_sinks : (words : List (List ℕ)) (o e : SinkView) (calls : List Call) (o' e' : SinkView) (k : Kind) (named source : List ℕ) → Goes words o e calls o' e' k named source → SinksSo words o o' e e' k
+goes_sinks words o e calls o' e' k named source (course.usage n s none) = untouched words o e kind.Usage (λ h. cc)
+goes_sinks words o e calls o' e' k named source (course.no_file fs f rs is up) = untouched words o e kind.NoFile (λ h. cc)
+goes_sinks words o e calls o' e' k named source (course.unread fs f rs is up) = untouched words o e kind.ReadFault (λ h. cc)
+goes_sinks words o e calls o' e' k named source (course.refused fs ss rs r all b) = untouched words o e (kind.Refused r) (λ h. cc)
+goes_sinks words o e calls o' e' k named source (course.accepted fs ss rs n s is all h) = untouched words o e (kind.Ended (pos 0)) accepted_no_fault
+goes_sinks words o e calls o' e' k named source (course.unwritten fs rs c h) = untouched words o e kind.WriteFault (λ h. cc)
+goes_sinks words o e calls o' e' k named source (course.gone fs rs c h) = untouched words o e kind.NoFile (λ h. cc)
+goes_sinks words o e calls o' e' k named source (course.unread_back fs rs c h) = untouched words o e kind.ReadFault (λ h. cc)
+goes_sinks words o e calls o' e' k named source (course.c_refused fs rs c b r h a) = untouched words o e (kind.CRefused r) (λ h. cc)
+goes_sinks words o e calls o' e' k named source (course.ran fs rs c b unit p q l n t h a r) = ran_sinks words unit (world_of fs) o o' e e' k (fs, h.is_run) (ran_so unit (world_of fs) o o' e e' k r)
+goes_sinks words o e calls o' e' k named source (course.memory cs n s p) = untouched words o e kind.Memory memory_no_fault
 
 -- 5. What the message line speaks of
 
@@ -376,7 +369,7 @@ goes_words words o e calls o' e' k named source (course.memory cs n s p) = recor
 
 -- all of this of a call on any words
 pub record CallSo (words : List (List ℕ)) (o e : SinkView) (calls : List Call) (o' e' : SinkView) (k : Kind) (named source : List ℕ) : Type 0 where
-  pub sinks : SinksSo o o' e e' k
+  pub sinks : SinksSo words o o' e e' k
   pub speaks : SpeaksOf words k named source
   pub faults : FaultsSo calls k named
   pub planned : IsPlanned words calls
@@ -449,28 +442,64 @@ chain_raises f calls g last (course.write _ mid _ name bytes answer (c ∷ cs) h
 
 -- 8. The clause
 
-said_so : (words : List (List ℕ)) (answer : Kind) (named source : List ℕ) (e mid e' : SinkView) (k : Kind) → SpeaksOf words answer named source → e.faults ≤ mid.faults → Takes e [] mid → Told answer named source mid e' k → Says words k e e' ⊎ (Rose e.faults e'.faults ⊎ (k ≡ kind.Memory))
+pub said_so : (words : List (List ℕ)) (answer : Kind) (named source : List ℕ) (e mid e' : SinkView) (k : Kind) → SpeaksOf words answer named source → e.faults ≤ mid.faults → Takes e [] mid → Told answer named source mid e' k → Says words k e e' ⊎ (Rose e.faults e'.faults ⊎ (k ≡ kind.Memory))
 said_so words answer named source e mid e' k speaks le nothing (inl (is, inl put)) =
     let s : Says words answer e e' = (named, source, speaks, takes_both e mid e' [] (line_of answer named source) nothing put) in
     inl (subst (λ a. Says words a e e') (sym is) s)
 said_so words answer named source e mid e' k speaks le nothing (inl (is, inr rose)) = inr (inl (rose_before e.faults mid.faults e'.faults le rose))
 said_so words answer named source e mid e' k speaks le nothing (inr is) = inr (inr is)
 
+-- want of memory, or another answer
+memory_or : (k : Kind) → (k ≡ kind.Memory) ⊎ (k ≢ kind.Memory)
+memory_or (kind.Ended code) = inr (λ h. cc)
+memory_or kind.Usage = inr (λ h. cc)
+memory_or kind.NoFile = inr (λ h. cc)
+memory_or kind.ReadFault = inr (λ h. cc)
+memory_or kind.WriteFault = inr (λ h. cc)
+memory_or kind.OutFault = inr (λ h. cc)
+memory_or (kind.Refused r) = inr (λ h. cc)
+memory_or (kind.CRefused r) = inr (λ h. cc)
+memory_or kind.StepsSpent = inr (λ h. cc)
+memory_or kind.Waiting = inr (λ h. cc)
+memory_or (kind.Trapped t) = inr (λ h. cc)
+memory_or kind.Dead = inr (λ h. cc)
+memory_or (kind.Undefined d) = inr (λ h. cc)
+memory_or kind.Memory = inl refl
+
+-- where no C was run, the line stands alone
+said_alone : (words : List (List ℕ)) (answer : Kind) (named source : List ℕ) (o o' e mid e' : SinkView) (k : Kind) → SpeaksOf words answer named source → SinksSo words o o' e mid answer → Told answer named source mid e' k
+    → (AreOfRun words → IsOfRun k → ⊥) → (answer ≡ kind.Memory) ⊎ (answer ≢ kind.Memory) → Says words k e e' ⊎ (Rose e.faults e'.faults ⊎ (k ≡ kind.Memory))
+said_alone words answer named source o o' e mid e' k speaks s (inl t) none (inl m) = inr (inr (t.0 ∙ m))
+said_alone words answer named source o o' e mid e' k speaks s (inl t) none (inr not) =
+    said_so words answer named source e mid e' k speaks s.err_faults (s.nothing (λ of r. none of (subst IsOfRun (sym t.0) r)) not) (inl t)
+said_alone words answer named source o o' e mid e' k speaks s (inr m) none other = inr (inr m)
+
+said_behind : (words : List (List ℕ)) (answer : Kind) (named source front : List ℕ) (e mid e' : SinkView) (k : Kind) → SpeaksOf words answer named source → e.faults ≤ mid.faults → Takes e front mid → Told answer named source mid e' k
+    → SaysBehind words k e e' ⊎ (Rose e.faults e'.faults ⊎ (k ≡ kind.Memory))
+said_behind words answer named source front e mid e' k speaks le took (inl (is, inl put)) =
+    let s : SaysBehind words answer e e' = (front, named, source, speaks, takes_both e mid e' front (line_of answer named source) took put) in
+    inl (subst (λ a. SaysBehind words a e e') (sym is) s)
+said_behind words answer named source front e mid e' k speaks le took (inl (is, inr rose)) = inr (inl (rose_before e.faults mid.faults e'.faults le rose))
+said_behind words answer named source front e mid e' k speaks le took (inr is) = inr (inr is)
+
 -- an error of a sink is one of out, or of err before or in the message line
 out_or_err : (o o' e mid e' : SinkView) → mid.faults ≤ e'.faults → Rose o.faults o'.faults ⊎ Rose e.faults mid.faults → Rose o.faults o'.faults ⊎ Rose e.faults e'.faults
 out_or_err o o' e mid e' le (inl r) = inl r
 out_or_err o o' e mid e' le (inr r) = inr (rose_behind e.faults mid.faults e'.faults r le)
 
-silent_so : (answer : Kind) (named source : List ℕ) (o o' e mid e' : SinkView) (k : Kind) → SinksSo o o' e mid answer → Told answer named source mid e' k → (IsOfRun k → ⊥) → k ≢ kind.Memory → o' ≡ o
-silent_so answer named source o o' e mid e' k s (inl t) a b = s.silent (λ r. a (subst IsOfRun (sym t.0) r)) (λ m. b (t.0 ∙ m))
-silent_so answer named source o o' e mid e' k s (inr m) a b = absurd (b m)
+silent_so : (words : List (List ℕ)) (answer : Kind) (named source : List ℕ) (o o' e mid e' : SinkView) (k : Kind) → SinksSo words o o' e mid answer → Told answer named source mid e' k → (IsOfRun k → ⊥) → k ≢ kind.Memory → o' ≡ o
+silent_so words answer named source o o' e mid e' k s (inl t) a b = s.silent (λ r. a (subst IsOfRun (sym t.0) r)) (λ m. b (t.0 ∙ m))
+silent_so words answer named source o o' e mid e' k s (inr m) a b = absurd (b m)
 
--- the message line of an answer that is no want of memory
-pub line_so : (answer : Kind) (named source : List ℕ) (e mid e' : SinkView) (k l : Kind) → e.faults ≤ mid.faults → Takes e [] mid → Told answer named source mid e' k → k ≡ l → l ≢ kind.Memory → TakesLine (line_of l named source) e e'
-line_so answer named source e mid e' k l le nothing (inl (is, inl put)) e2 not =
-    inl (subst (λ a. Takes e (line_of a named source) e') (sym is ∙ e2) (takes_both e mid e' [] (line_of answer named source) nothing put))
-line_so answer named source e mid e' k l le nothing (inl (is, inr rose)) e2 not = inr (rose_before e.faults mid.faults e'.faults le rose)
-line_so answer named source e mid e' k l le nothing (inr m) e2 not = absurd (not (sym e2 ∙ m))
+-- the message line of an answer that is neither want of memory nor one of a run
+pub line_so : (words : List (List ℕ)) (answer : Kind) (named source : List ℕ) (o o' e mid e' : SinkView) (k l : Kind) → SinksSo words o o' e mid answer → Told answer named source mid e' k → k ≡ l → l ≢ kind.Memory → (IsOfRun l → ⊥)
+    → TakesLine (line_of l named source) e e'
+line_so words answer named source o o' e mid e' k l s (inl (is, inl put)) e2 not none =
+    let same : answer ≡ l = sym is ∙ e2 in
+    let nothing : Takes e [] mid = s.nothing (λ of r. none (subst IsOfRun same r)) (λ m. not (sym same ∙ m)) in
+    inl (subst (λ a. Takes e (line_of a named source) e') same (takes_both e mid e' [] (line_of answer named source) nothing put))
+line_so words answer named source o o' e mid e' k l s (inl (is, inr rose)) e2 not none = inr (rose_before e.faults mid.faults e'.faults s.err_faults rose)
+line_so words answer named source o o' e mid e' k l s (inr m) e2 not none = absurd (not (sym e2 ∙ m))
 
 -- the status of a check is one
 checked_status : (answer : Kind) (named source : List ℕ) (e e' : SinkView) (k : Kind) → Told answer named source e e' k → IsOfCheck answer → IsOfCheck k
@@ -496,7 +525,8 @@ causes words f f' o o' e e' status call =
       faults = counts.0;
       out_faults = so.sinks.out_faults;
       err_faults = (let a = so.sinks.err_faults in omega arith);
-      said = said_so words call.answer call.named call.source e call.middle e' status.kind so.speaks so.sinks.err_faults so.sinks.nothing end;
+      behind = said_behind words call.answer call.named call.source so.sinks.took.0 e call.middle e' status.kind so.speaks so.sinks.err_faults so.sinks.took.1 end;
+      said = λ none. said_alone words call.answer call.named call.source o o' e call.middle e' status.kind so.speaks so.sinks end none (memory_or call.answer);
       checked = λ files is. (let h = so.on_words.checked files is in (checked_status call.answer call.named call.source call.middle e' status.kind end h.0, h.1));
-      silent = silent_so call.answer call.named call.source o o' e call.middle e' status.kind so.sinks end;
+      silent = silent_so words call.answer call.named call.source o o' e call.middle e' status.kind so.sinks end;
     }

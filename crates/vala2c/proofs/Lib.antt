@@ -1,5 +1,4 @@
 pub mod Names
-pub mod Quiet
 pub mod FirstOfList
 pub mod Numbered
 pub mod Reading

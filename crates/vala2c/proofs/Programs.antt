@@ -1,7 +1,8 @@
 -- The program of the files runs: from the theorem on the compiler to what is seen of a call.
-use Rattle.std.proofs.Common.{◌≡◌, ◌≢◌, ℕ, ◌+◌, ◌-◌, ◌≤◌, List, [], ◌∷◌, ◌++◌, length, Some, Ok, false, refl, sym, ap, ◌∙◌, subst, inl, inr, ◌⊎◌, arith, append-nil, length-append, pos}
+use Rattle.std.proofs.Common.{◌≡◌, ◌≢◌, ℕ, ◌+◌, ◌-◌, ◌≤◌, List, [], ◌∷◌, ◌++◌, length, Some, Result, Ok, false, refl, sym, ap, ◌∙◌, subst, inl, inr, ◌⊎◌, arith, append-nil, length-append, pos}
 use Rattle.std.proofs.lemmas.Bool.{cases_lt}
 use Rattle.vg_base.specs.declared.outside.Call.{Call}
+use Rattle.vg_base.specs.declared.outside.Call.TheVariants.{Read, Write}
 use Rattle.vg_base.specs.declared.event.Stream.{Stream}
 use Rattle.vg_base.specs.declared.event.Stream.TheVariants as stream
 use Rattle.vg_base.specs.declared.event.UndefKind.{UndefKind}
@@ -14,30 +15,32 @@ use Rattle.vg_base.specs.Outside.{Files, FolderView, SinkView, Takes, Rose}
 use Rattle.vg_base.specs.Machine.{Machine, moves, said}
 use Rattle.vg_base.specs.Run.{Begins}
 use Rattle.vg_base.specs.World.{World, IsWorld, Mates}
-use Rattle.vg_base.specs.Headline.{Headline, events, printed}
-use Rattle.vg_base.proofs.OutsideLaws.{takes_both}
+use Rattle.vg_base.specs.Headline.{Headline, WithinLimits, events, printed}
+use Rattle.vg_base.proofs.OutsideLaws.{takes_both, takes_none}
 use Rattle.vg_base.proofs.MachineLaws.{said_ended, said_add}
 use Rattle.vg_base.proofs.RunLaws.{begins_trans, cut_begins}
 use Rattle.vg_base.proofs.HeadlineLaws.{printed_append}
-use Rattle.c_reader.specs.Dialect.{Texts, Answers, CReads}
-use Rattle.c_reader.specs.Dialect as reading
-use Rattle.c_reader.specs.CMeaning.{CRun, c_meaning, c_opening}
-use Rattle.c_reader.proofs.Reading.{one_unit}
-use Rattle.vala_compile.specs.Carried.{Program}
+use Rattle.c_tree.specs.declared.kinds.Refusal.{Refusal as CRefusal}
+use Rattle.c_tree.specs.declared.unit.Unit.{Unit as CUnit}
+use Rattle.c_tree.specs.Answers.{Answers}
+use Rattle.c_tree.specs.Laws.{OneAnswer}
+use Rattle.c_meaning.specs.Code.{reading, program_by}
+use Rattle.c_meaning.specs.Runs.{CRun, meaning, opening_by}
+use Rattle.c_emit.specs.Program.{Program}
+use Rattle.c_emit.specs.VMeaning.{VRun}
+use Rattle.c_emit.specs.Laws.{ProgramsAreQuiet}
 use Rattle.vala_compile.specs.Program.{Reads}
-use Rattle.vala_compile.specs.VMeaning.{VRun}
 use Rattle.vala_compile.specs.Correct.{IsCompiled}
-use Rattle.vala_compile.proofs.Counts.{program_within, unit_within}
 use Rattle.vala2c.specs.declared.status.Kind.{Kind}
 use Rattle.vala2c.specs.declared.status.Kind.TheVariants as kind
 use Rattle.vala2c.specs.declared.status.Status.{Status}
 use Rattle.vala2c.specs.Words.{IsRun, IsCheck, first_of, c_file, world_of}
 use Rattle.vala2c.specs.Status.{line_of, kind_of_end}
-use Rattle.vala2c.specs.Course.{Chain, TakesAll, TakesFront, Ran, Goes, IsCall, budget, prints_out}
+use Rattle.vala2c.specs.Course.{Chain, TakesFront, Ran, Goes, IsBuilt, IsCall, budget}
 use Rattle.vala2c.specs.Course as course
-use Rattle.vala2c.specs.Causes.{AreOfRun, Hold, TakesLine, IsOfRun, IsOfEnd, IsProgramOf, kind_of_program_end, ProgramEnds, ProgramPrints, RunsProgram, ProgramTold}
+use Rattle.vala2c.specs.Causes.{AreOfRun, Hold, SpeaksOf, TakesLine, IsOfRun, IsOfEnd, IsProgramOf, kind_of_program_end, ProgramEnds, ProgramPrints, RunsProgram, ProgramTold}
 use Rattle.vala2c.proofs.Names.{name_is}
-use Rattle.vala2c.proofs.Causes.{ran_so, Told, told, call_so, rose_before}
+use Rattle.vala2c.proofs.Causes.{ran_so, Told, told, call_so, rose_before, said_so, nothing_begins}
 use Rattle.vala2c.proofs.Reading.{After, one_command}
 use Rattle.vala2c.proofs.ToldFiles.{all_calls, one_content}
 
@@ -70,20 +73,20 @@ said_at_ends M n m s e f h g =
 
 -- The run of a program meets that of its unit at the end: the same was said, and the ends are mates. The number of steps of the
 -- unit is a variable here and below, so that no proof counts them.
-pub record EndsMet (program : Program) (unit : Texts) (w : World) (limit : ℕ) (end : CEnd) : Type 0 where
+pub record EndsMet (program : Program) (unit : CUnit) (w : World) (limit : ℕ) (end : CEnd) : Type 0 where
   pub steps : ℕ
   pub program_end : VEnd
   pub ended : (VRun program w).ended steps ≡ Some program_end
   pub mates : Mates program_end end
   pub trace : (VRun program w).trace steps ≡ (CRun unit w).trace limit
 
-pub ends_met : (program : Program) (unit : Texts) (w : World) (limit : ℕ) (end : CEnd) → Headline (VRun program w) (CRun unit w) → (CRun unit w).ended limit ≡ Some end → EndsMet program unit w limit end
-ends_met program unit w limit end h is =
-    let back = h.backward limit (unit_within unit w limit) in
+pub ends_met : ProgramsAreQuiet → (program : Program) (unit : CUnit) (w : World) (limit : ℕ) (end : CEnd) → Headline (VRun program w) (CRun unit w) → WithinLimits (CRun unit w) limit → (CRun unit w).ended limit ≡ Some end → EndsMet program unit w limit end
+ends_met law program unit w limit end h few is =
+    let back = h.backward limit few in
     let met = back.2 end is in
-    let on = h.forward back.0 (program_within program w back.0) in
+    let on = h.forward back.0 (law.within program w back.0) in
     let there = on.2 met.0 met.1 in
-    let same : (CRun unit w).trace on.0 ≡ (CRun unit w).trace limit = ap events (said_at_ends (c_meaning unit).machine on.0 limit c_opening there.0 end there.1 is) in
+    let same : (CRun unit w).trace on.0 ≡ (CRun unit w).trace limit = ap events (said_at_ends (meaning (program_by reading unit)).machine on.0 limit (opening_by reading unit w) there.0 end there.1 is) in
     record {
       steps = back.0;
       program_end = met.0;
@@ -93,26 +96,39 @@ ends_met program unit w limit end h is =
     }
 
 -- what a unit prints is a front of what its program prints
-pub prints_met : (program : Program) (unit : Texts) (w : World) (limit : ℕ) (s : Stream) → Headline (VRun program w) (CRun unit w) → (n : ℕ) × Begins (printed s ((CRun unit w).trace limit)) (printed s ((VRun program w).trace n))
-prints_met program unit w limit s h =
-    let back = h.backward limit (unit_within unit w limit) in
+pub prints_met : (program : Program) (unit : CUnit) (w : World) (limit : ℕ) (s : Stream) → Headline (VRun program w) (CRun unit w) → WithinLimits (CRun unit w) limit → (n : ℕ) × Begins (printed s ((CRun unit w).trace limit)) (printed s ((VRun program w).trace n))
+prints_met program unit w limit s h few =
+    let back = h.backward limit few in
     (back.0, cut_begins (printed s) (printed_append s) _ _ back.1)
 
 -- 2. The unit that was read back is that of the program
 
-pub record UnitOf (sources : List (List ℕ)) (w : World) (unit : Texts) : Type 0 where
+pub record UnitOf (sources : List (List ℕ)) (w : World) (unit : CUnit) : Type 0 where
   pub program : Program
   pub is_program : Reads sources program
   pub same : Headline (VRun program w) (CRun unit w)
+  pub within : (n : ℕ) → WithinLimits (CRun unit w) n
 
-read_unit : (bytes : List ℕ) (limit : ℕ) (unit : Texts) → Answers bytes limit (Ok unit) → CReads bytes unit
-read_unit bytes limit unit (reading.unit _ small h) = h
+same_unit : (a b : CUnit) → ◌≡◌ {A = Result CUnit CRefusal} (Ok a) (Ok b) → a ≡ b
+same_unit a b e = cc
 
-pub unit_of : (sources : List (List ℕ)) (c bytes : List ℕ) (w : World) (limit : ℕ) (unit : Texts) → IsWorld w → IsCompiled sources false c → bytes ≡ c → Answers bytes limit (Ok unit) → UnitOf sources w unit
-unit_of sources c bytes w limit unit world h same a =
-    let is : CReads c unit = subst (λ b. CReads b unit) same (read_unit bytes limit unit a) in
-    let e : h.unit ≡ unit = one_unit c h.unit unit h.is_unit is in
-    record { program = h.program; is_program = h.is_program; same = subst (λ x. Headline (VRun h.program w) (CRun x w)) e (h.same w world) }
+pub unit_of : OneAnswer → (sources : List (List ℕ)) (c bytes : List ℕ) (w : World) (unit : CUnit) → IsWorld w → IsCompiled sources false c → bytes ≡ c → Answers bytes (length c) (Ok unit) → UnitOf sources w unit
+unit_of one sources c bytes w unit world h same a =
+    let is : Answers c (length c) (Ok unit) = subst (λ b. Answers b (length c) (Ok unit)) same a in
+    let e : h.unit ≡ unit = same_unit h.unit unit (one c (length c) (Ok h.unit) (Ok unit) h.is_unit is) in
+    record {
+      program = h.program;
+      is_program = h.is_program;
+      same = subst (λ x. Headline (VRun h.program w) (CRun x w)) e (h.same w world);
+      within = subst (λ x. (n : ℕ) → WithinLimits (CRun x w) n) e (h.within w world);
+    }
+
+-- a program writes nothing to err, so its unit does not either
+quiet : ProgramsAreQuiet → (program : Program) (unit : CUnit) (w : World) (limit : ℕ) (e e' : SinkView) → Headline (VRun program w) (CRun unit w) → WithinLimits (CRun unit w) limit → TakesFront (printed stream.Err ((CRun unit w).trace limit)) e e' → Takes e [] e'
+quiet law program unit w limit e e' h few t =
+    let met = prints_met program unit w limit stream.Err h few in
+    let none : printed stream.Err ((CRun unit w).trace limit) ≡ [] = nothing_begins _ _ (law.no_error program w met.0) met.1 in
+    subst (λ l. Takes e l e') (nothing_begins t.0 _ none t.1) t.2
 
 pub world_is : (names : List (List ℕ)) → IsWorld (world_of names)
 world_is names = record { name = name_is (first_of names); input = tt; entries = tt; few = omega arith }
@@ -143,7 +159,7 @@ end_line k named source h = absurd h
 -- 4. A run of the unit
 
 -- it came to an end
-pub record ToEnd (unit : Texts) (w : World) (limit : ℕ) (o o' e e' : SinkView) (k : Kind) : Type 0 where
+pub record ToEnd (unit : CUnit) (w : World) (limit : ℕ) (o o' e e' : SinkView) (k : Kind) : Type 0 where
   pub end : CEnd
   pub is : (CRun unit w).ended limit ≡ Some end
   pub status : k ≡ kind_of_end end
@@ -154,11 +170,23 @@ pub record ToEnd (unit : Texts) (w : World) (limit : ℕ) (o o' e e' : SinkView)
 abbrev pub NoEnd : Kind → Type 0
 NoEnd k = (k ≡ kind.StepsSpent) ⊎ ((k ≡ kind.OutFault) ⊎ (k ≡ kind.Memory))
 
-pub to_end : (unit : Texts) (w : World) (o o' e e' : SinkView) (k : Kind) → Ran unit w o o' e e' k → ToEnd unit w budget o o' e e' k ⊎ NoEnd k
+pub to_end : (unit : CUnit) (w : World) (o o' e e' : SinkView) (k : Kind) → Ran unit w o o' e e' k → ToEnd unit w budget o o' e e' k ⊎ NoEnd k
 to_end unit w o o' e e' k (course.ended end is out err) = inl (record { end = end; is = is; status = refl; out = out.0; err = err.0 })
 to_end unit w o o' e e' k (course.spent is out err) = inr (inl refl)
 to_end unit w o o' e e' k (course.refused out err rose) = inr (inr (inl refl))
 to_end unit w o o' e e' k (course.memory out err) = inr (inr (inr refl))
+
+-- so within some number of steps, which no proof below counts
+pub record RanTo (unit : CUnit) (w : World) (o o' e e' : SinkView) (k : Kind) : Type 0 where
+  pub limit : ℕ
+  pub out : TakesFront (printed stream.Out ((CRun unit w).trace limit)) o o'
+  pub err : TakesFront (printed stream.Err ((CRun unit w).trace limit)) e e'
+  pub at_end : ToEnd unit w limit o o' e e' k ⊎ NoEnd k
+
+ran_to : (unit : CUnit) (w : World) (o o' e e' : SinkView) (k : Kind) → Ran unit w o o' e e' k → RanTo unit w o o' e e' k
+ran_to unit w o o' e e' k r =
+    let so = ran_so unit w o o' e e' k r in
+    record { limit = budget; out = so.out; err = so.err; at_end = to_end unit w o o' e e' k r }
 
 not_end : {A : Type 0} (k : Kind) → NoEnd k → IsOfEnd k → A
 not_end k (inl e) h = absurd (subst IsOfEnd e h)
@@ -200,15 +228,16 @@ pub record ProgramSo (words : List (List ℕ)) (files : Files) (o o' e e' : Sink
   pub ends : AreOfRun words → IsOfEnd k → EndsBefore words files o o' e e' k
   pub prints : AreOfRun words → IsOfRun k → ProgramPrints words files o o'
   pub only : (o' ≡ o) ⊎ ProgramPrints words files o o'
+  pub nothing : Takes e [] e'
   pub defined : (d : UndefKind) → k ≢ kind.Undefined d
 
-program_of : (words : List (List ℕ)) (files : Files) (names sources : List (List ℕ)) (unit : Texts) → IsRun words names → Hold files names sources → (x : UnitOf sources (world_of names) unit) → IsProgramOf words files names x.program
+program_of : (words : List (List ℕ)) (files : Files) (names sources : List (List ℕ)) (unit : CUnit) → IsRun words names → Hold files names sources → (x : UnitOf sources (world_of names) unit) → IsProgramOf words files names x.program
 program_of words files names sources unit is holds x =
     record { is_run = is; sources = sources; are_sources = holds; is_program = x.is_program }
 
-ends_before : (words : List (List ℕ)) (files : Files) (names sources : List (List ℕ)) (unit : Texts) (limit : ℕ) (o o' e e' : SinkView) (k : Kind) → IsRun words names → Hold files names sources → UnitOf sources (world_of names) unit → ToEnd unit (world_of names) limit o o' e e' k → EndsBefore words files o o' e e' k
-ends_before words files names sources unit limit o o' e e' k is holds x t =
-    let met = ends_met x.program unit (world_of names) limit t.end x.same t.is in
+ends_before : ProgramsAreQuiet → (words : List (List ℕ)) (files : Files) (names sources : List (List ℕ)) (unit : CUnit) (limit : ℕ) (o o' e e' : SinkView) (k : Kind) → IsRun words names → Hold files names sources → UnitOf sources (world_of names) unit → ToEnd unit (world_of names) limit o o' e e' k → EndsBefore words files o o' e e' k
+ends_before law words files names sources unit limit o o' e e' k is holds x t =
+    let met = ends_met law x.program unit (world_of names) limit t.end x.same (x.within limit) t.is in
     record {
       names = names;
       program = x.program;
@@ -221,14 +250,14 @@ ends_before words files names sources unit limit o o' e e' k is holds x t =
       err = subst (λ tr. Takes e (printed stream.Err tr) e') (sym met.trace) t.err;
     }
 
-end_defined : (sources : List (List ℕ)) (unit : Texts) (w : World) (limit : ℕ) (o o' e e' : SinkView) (k : Kind) (d : UndefKind) → UnitOf sources w unit → ToEnd unit w limit o o' e e' k → k ≢ kind.Undefined d
-end_defined sources unit w limit o o' e e' k d x t h =
-    let met = ends_met x.program unit w limit t.end x.same t.is in
+end_defined : ProgramsAreQuiet → (sources : List (List ℕ)) (unit : CUnit) (w : World) (limit : ℕ) (o o' e e' : SinkView) (k : Kind) (d : UndefKind) → UnitOf sources w unit → ToEnd unit w limit o o' e e' k → k ≢ kind.Undefined d
+end_defined law sources unit w limit o o' e e' k d x t h =
+    let met = ends_met law x.program unit w limit t.end x.same (x.within limit) t.is in
     program_defined met.program_end d (sym (t.status ∙ same_status met.program_end t.end met.mates) ∙ h)
 
-program_prints : (words : List (List ℕ)) (files : Files) (names sources : List (List ℕ)) (unit : Texts) (limit : ℕ) (o o' : SinkView) → IsRun words names → Hold files names sources → UnitOf sources (world_of names) unit → TakesFront (printed stream.Out ((CRun unit (world_of names)).trace limit)) o o' → ProgramPrints words files o o'
+program_prints : (words : List (List ℕ)) (files : Files) (names sources : List (List ℕ)) (unit : CUnit) (limit : ℕ) (o o' : SinkView) → IsRun words names → Hold files names sources → UnitOf sources (world_of names) unit → TakesFront (printed stream.Out ((CRun unit (world_of names)).trace limit)) o o' → ProgramPrints words files o o'
 program_prints words files names sources unit limit o o' is holds x t =
-    let met = prints_met x.program unit (world_of names) limit stream.Out x.same in
+    let met = prints_met x.program unit (world_of names) limit stream.Out x.same (x.within limit) in
     record {
       names = names;
       program = x.program;
@@ -239,49 +268,63 @@ program_prints words files names sources unit limit o o' is holds x t =
       out = t.2;
     }
 
-ran_program : (words : List (List ℕ)) (files : Files) (names sources : List (List ℕ)) (unit : Texts) (limit : ℕ) (o o' e e' : SinkView) (k : Kind) → IsRun words names → Hold files names sources → UnitOf sources (world_of names) unit → TakesFront (printed stream.Out ((CRun unit (world_of names)).trace limit)) o o' → ToEnd unit (world_of names) limit o o' e e' k ⊎ NoEnd k → ProgramSo words files o o' e e' k
-ran_program words files names sources unit limit o o' e e' k is holds x t (inl end) =
+ran_program : ProgramsAreQuiet → (words : List (List ℕ)) (files : Files) (names sources : List (List ℕ)) (unit : CUnit) (limit : ℕ) (o o' e e' : SinkView) (k : Kind) → IsRun words names → Hold files names sources → UnitOf sources (world_of names) unit → TakesFront (printed stream.Out ((CRun unit (world_of names)).trace limit)) o o' → Takes e [] e' → ToEnd unit (world_of names) limit o o' e e' k ⊎ NoEnd k → ProgramSo words files o o' e e' k
+ran_program law words files names sources unit limit o o' e e' k is holds x t none (inl end) =
     let p = program_prints words files names sources unit limit o o' is holds x t in
     record {
-      ends = λ of h. ends_before words files names sources unit limit o o' e e' k is holds x end;
+      ends = λ of h. ends_before law words files names sources unit limit o o' e e' k is holds x end;
       prints = λ of h. p;
       only = inr p;
-      defined = λ d. end_defined sources unit (world_of names) limit o o' e e' k d x end;
+      nothing = none;
+      defined = λ d. end_defined law sources unit (world_of names) limit o o' e e' k d x end;
     }
-ran_program words files names sources unit limit o o' e e' k is holds x t (inr none) =
+ran_program law words files names sources unit limit o o' e e' k is holds x t nothing (inr none) =
     let p = program_prints words files names sources unit limit o o' is holds x t in
     record {
       ends = λ of h. not_end k none h;
       prints = λ of h. p;
       only = inr p;
+      nothing = nothing;
       defined = λ d. no_end_defined k d none;
     }
 
+unit_ran : ProgramsAreQuiet → (words : List (List ℕ)) (files : Files) (names sources : List (List ℕ)) (unit : CUnit) (o o' e e' : SinkView) (k : Kind) → IsRun words names → Hold files names sources → UnitOf sources (world_of names) unit → RanTo unit (world_of names) o o' e e' k
+    → ProgramSo words files o o' e e' k
+unit_ran law words files names sources unit o o' e e' k is holds x t =
+    let none = quiet law x.program unit (world_of names) t.limit e e' x.same (x.within t.limit) t.err in
+    ran_program law words files names sources unit t.limit o o' e e' k is holds x t.out none t.at_end
+
 -- nothing was run
 nothing_ran : (words : List (List ℕ)) (files : Files) (o e : SinkView) (k : Kind) → (IsOfEnd k → ⊥) → (IsOfRun k → ⊥) → ((d : UndefKind) → k ≢ kind.Undefined d) → ProgramSo words files o o e e k
-nothing_ran words files o e k a b c = record { ends = λ of h. absurd (a h); prints = λ of h. absurd (b h); only = inl refl; defined = c }
+nothing_ran words files o e k a b c = record { ends = λ of h. absurd (a h); prints = λ of h. absurd (b h); only = inl refl; nothing = takes_none e e refl; defined = c }
 
 -- a check ran nothing
 check_ran : (words names : List (List ℕ)) (files : Files) (o e : SinkView) → IsCheck words names → ProgramSo words files o o e e (kind.Ended (pos 0))
 check_ran words names files o e is =
-    record { ends = λ of h. one_command words of.0 names of.1 is; prints = λ of h. one_command words of.0 names of.1 is; only = inl refl; defined = λ d. ended_defined d }
+    record { ends = λ of h. one_command words of.0 names of.1 is; prints = λ of h. one_command words of.0 names of.1 is; only = inl refl; nothing = takes_none e e refl; defined = λ d. ended_defined d }
 
-goes_program : (words : List (List ℕ)) (files : Files) (f g : FolderView) (o e : SinkView) (calls : List Call) (o' e' : SinkView) (k : Kind) (named source : List ℕ) → After f files → Chain f calls g → Goes words o e calls o' e' k named source → ProgramSo words files o o' e e' k
-goes_program words files f g o e calls o' e' k named source told chain (course.usage n s none) = nothing_ran words files o e kind.Usage (λ x. x) (λ x. x) (λ d h. cc)
-goes_program words files f g o e calls o' e' k named source told chain (course.no_file ns file rs is up) = nothing_ran words files o e kind.NoFile (λ x. x) (λ x. x) (λ d h. cc)
-goes_program words files f g o e calls o' e' k named source told chain (course.unread ns file rs is up) = nothing_ran words files o e kind.ReadFault (λ x. x) (λ x. x) (λ d h. cc)
-goes_program words files f g o e calls o' e' k named source told chain (course.refused ns ss rs r all b) = nothing_ran words files o e (kind.Refused r) (λ x. x) (λ x. x) (λ d h. cc)
-goes_program words files f g o e calls o' e' k named source told chain (course.accepted ns ss rs n s is all a) = check_ran words ns files o e is
-goes_program words files f g o e calls o' e' k named source told chain (course.unwritten ns rs c h) = nothing_ran words files o e kind.WriteFault (λ x. x) (λ x. x) (λ d h. cc)
-goes_program words files f g o e calls o' e' k named source told chain (course.gone ns rs c h) = nothing_ran words files o e kind.NoFile (λ x. x) (λ x. x) (λ d h. cc)
-goes_program words files f g o e calls o' e' k named source told chain (course.unread_back ns rs c h) = nothing_ran words files o e kind.ReadFault (λ x. x) (λ x. x) (λ d h. cc)
-goes_program words files f g o e calls o' e' k named source told chain (course.c_refused ns rs c b r h a) = nothing_ran words files o e (kind.CRefused r) (λ x. x) (λ x. x) (λ d h. cc)
-goes_program words files f g o e calls o' e' k named source told chain (course.ran ns rs c b unit p q l n t h a r) =
-    let w = all_calls f g files ns h.sources c (Ok b) rs h.all_read told chain in
+-- what was read back was run
+back_ran : OneAnswer → ProgramsAreQuiet → (words : List (List ℕ)) (files : Files) (f g : FolderView) (o e : SinkView) (ns : List (List ℕ)) (rs : List Call) (c b : List ℕ) (unit : CUnit) (o' e' : SinkView) (k : Kind)
+    → After f files → Chain f (rs ++ Write (c_file ns) c (Ok tt) ∷ Read (c_file ns) (Ok b) ∷ []) g → IsBuilt words ns rs c → Answers b (length c) (Ok unit) → RanTo unit (world_of ns) o o' e e' k → ProgramSo words files o o' e e' k
+back_ran one law words files f g o e ns rs c b unit o' e' k known chain h a r =
+    let w = all_calls f g files ns h.sources c (Ok b) rs h.all_read known chain in
     let same = one_content (w.after (c_file ns)) b c w.honest w.written in
-    let x = unit_of h.sources c b (world_of ns) (length c) unit (world_is ns) h.compiled same a in
-    ran_program words files ns h.sources unit budget o o' e e' k h.is_run w.holds x (ran_so unit (world_of ns) o o' e e' k r).out (to_end unit (world_of ns) o o' e e' k r)
-goes_program words files f g o e calls o' e' k named source told chain (course.memory cs n s p) = nothing_ran words files o e kind.Memory (λ x. x) (λ x. x) memory_defined
+    let x = unit_of one h.sources c b (world_of ns) unit (world_is ns) h.compiled same a in
+    unit_ran law words files ns h.sources unit o o' e e' k h.is_run w.holds x r
+
+goes_program : OneAnswer → ProgramsAreQuiet → (words : List (List ℕ)) (files : Files) (f g : FolderView) (o e : SinkView) (calls : List Call) (o' e' : SinkView) (k : Kind) (named source : List ℕ) → After f files → Chain f calls g → Goes words o e calls o' e' k named source → ProgramSo words files o o' e e' k
+goes_program one law words files f g o e calls o' e' k named source known chain (course.usage n s none) = nothing_ran words files o e kind.Usage (λ x. x) (λ x. x) (λ d h. cc)
+goes_program one law words files f g o e calls o' e' k named source known chain (course.no_file ns file rs is up) = nothing_ran words files o e kind.NoFile (λ x. x) (λ x. x) (λ d h. cc)
+goes_program one law words files f g o e calls o' e' k named source known chain (course.unread ns file rs is up) = nothing_ran words files o e kind.ReadFault (λ x. x) (λ x. x) (λ d h. cc)
+goes_program one law words files f g o e calls o' e' k named source known chain (course.refused ns ss rs r all b) = nothing_ran words files o e (kind.Refused r) (λ x. x) (λ x. x) (λ d h. cc)
+goes_program one law words files f g o e calls o' e' k named source known chain (course.accepted ns ss rs n s is all a) = check_ran words ns files o e is
+goes_program one law words files f g o e calls o' e' k named source known chain (course.unwritten ns rs c h) = nothing_ran words files o e kind.WriteFault (λ x. x) (λ x. x) (λ d h. cc)
+goes_program one law words files f g o e calls o' e' k named source known chain (course.gone ns rs c h) = nothing_ran words files o e kind.NoFile (λ x. x) (λ x. x) (λ d h. cc)
+goes_program one law words files f g o e calls o' e' k named source known chain (course.unread_back ns rs c h) = nothing_ran words files o e kind.ReadFault (λ x. x) (λ x. x) (λ d h. cc)
+goes_program one law words files f g o e calls o' e' k named source known chain (course.c_refused ns rs c b r h a) = nothing_ran words files o e (kind.CRefused r) (λ x. x) (λ x. x) (λ d h. cc)
+goes_program one law words files f g o e calls o' e' k named source known chain (course.ran ns rs c b unit p q l n t h a r) =
+    back_ran one law words files f g o e ns rs c b unit o' e' k known chain h a (ran_to unit (world_of ns) o o' e e' k r)
+goes_program one law words files f g o e calls o' e' k named source known chain (course.memory cs n s p) = nothing_ran words files o e kind.Memory (λ x. x) (λ x. x) memory_defined
 
 -- 6. The clause
 
@@ -303,28 +346,30 @@ ends_behind words files o o' e mid e' k named source is le x heard =
       err = line_heard (printed stream.Err ((VRun x.program (world_of x.names)).trace x.steps)) (line_of k named source) (line_of k [] []) e mid e' (end_line k named source is) le x.err heard;
     }
 
-finished : (words : List (List ℕ)) (files : Files) (o o' e mid e' : SinkView) (answer k : Kind) (named source : List ℕ) → e.faults ≤ mid.faults → ProgramSo words files o o' e mid answer → Told answer named source mid e' k → RunsProgram words files o o' e e' k
-finished words files o o' e mid e' answer k named source le so (inl t) =
+finished : (words : List (List ℕ)) (files : Files) (o o' e mid e' : SinkView) (answer k : Kind) (named source : List ℕ) → e.faults ≤ mid.faults → SpeaksOf words answer named source → ProgramSo words files o o' e mid answer → Told answer named source mid e' k → RunsProgram words files o o' e e' k
+finished words files o o' e mid e' answer k named source le speaks so (inl t) =
     let here : ProgramSo words files o o' e mid k = subst (ProgramSo words files o o' e mid) (sym t.0) so in
     let heard : TakesLine (line_of k named source) mid e' = subst (λ a. TakesLine (line_of a named source) mid e') (sym t.0) t.1 in
     record {
       ends = λ of h. ends_behind words files o o' e mid e' k named source h le (here.ends of h) heard;
       prints = here.prints;
       only = here.only;
+      said = said_so words answer named source e mid e' k speaks le so.nothing (inl t);
       defined = here.defined;
     }
-finished words files o o' e mid e' answer k named source le so (inr m) =
+finished words files o o' e mid e' answer k named source le speaks so (inr m) =
     record {
       ends = λ of h. absurd (subst IsOfEnd m h);
       prints = λ of h. absurd (subst IsOfRun m h);
       only = so.only;
+      said = inr (inr m);
       defined = λ d h. memory_defined d (sym m ∙ h);
     }
 
-pub program_told : (words : List (List ℕ)) (f f' : FolderView) (o o' e e' : SinkView) (status : Status) → IsCall words f f' o o' e e' status → ProgramTold words f o o' e e' status.kind
-program_told words f f' o o' e e' status call =
+pub program_told : OneAnswer → ProgramsAreQuiet → (words : List (List ℕ)) (f f' : FolderView) (o o' e e' : SinkView) (status : Status) → IsCall words f f' o o' e e' status → ProgramTold words f o o' e e' status.kind
+program_told one law words f f' o o' e e' status call =
     λ files is.
     let so = call_so words o e call.calls o' call.middle call.answer call.named call.source call.goes in
-    finished words files o o' e call.middle e' call.answer status.kind call.named call.source so.sinks.err_faults
-    (goes_program words files f f' o e call.calls o' call.middle call.answer call.named call.source is call.chain call.goes)
+    finished words files o o' e call.middle e' call.answer status.kind call.named call.source so.sinks.err_faults so.speaks
+    (goes_program one law words files f f' o e call.calls o' call.middle call.answer call.named call.source is call.chain call.goes)
     (told call.answer call.named call.source call.middle e' status call.finishes)

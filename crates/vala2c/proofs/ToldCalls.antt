@@ -8,7 +8,7 @@ use Rattle.vg_base.specs.Outside.{FolderView, SinkView, AddsCalls, entry_of_read
 use Rattle.vg_base.proofs.OutsideLaws.{told_none, told_both}
 use Rattle.static_rules.specs.declared.rules.Refusal.{Refusal}
 use Rattle.vala_compile.specs.Program.{AreRead}
-use Rattle.c_reader.specs.declared.refusal.CRefusal.{CRefusal}
+use Rattle.c_tree.specs.declared.kinds.Refusal.{Refusal as CRefusal}
 use Rattle.vala2c.specs.declared.status.Kind.{Kind}
 use Rattle.vala2c.specs.declared.status.Kind.TheVariants as kind
 use Rattle.vala2c.specs.declared.status.Status.{Status}
@@ -269,22 +269,22 @@ told_calls words f f' o o' e e' status call =
     let end = told call.answer call.named call.source call.middle e' status call.finishes in
     let was = answered call.answer call.named call.source call.middle e' status.kind in
     let stands = in_status call.answer call.named call.source call.middle e' status.kind in
-    let line = λ (l : Kind). line_so call.answer call.named call.source e call.middle e' status.kind l so.sinks.err_faults so.sinks.nothing in
+    let line = λ (l : Kind). line_so words call.answer call.named call.source o o' e call.middle e' status.kind l so.sinks in
     record {
       added = entries call.calls;
       told = chain_told f call.calls f' call.chain;
       planned = entries_planned words call.calls so.planned;
       outside = λ h. ap entries (so.on_words.outside h).1;
       usage = λ h. ap entries (so.on_words.usage (was kind.Usage end h (λ x. cc))).1;
-      no_file = λ h. (let l = so.faults.no_file (was kind.NoFile end h (λ x. cc)) in (call.named, l.1, line kind.NoFile end h (λ x. cc)));
-      read_fault = λ h. (let l = so.faults.read_fault (was kind.ReadFault end h (λ x. cc)) in (call.named, l.1, line kind.ReadFault end h (λ x. cc)));
-      write_fault = λ h. (let l = so.faults.write_fault (was kind.WriteFault end h (λ x. cc)) in (call.named, l.0, l.1.1, line kind.WriteFault end h (λ x. cc)));
+      no_file = λ h. (let l = so.faults.no_file (was kind.NoFile end h (λ x. cc)) in (call.named, l.1, line kind.NoFile end h (λ x. cc) (λ x. x)));
+      read_fault = λ h. (let l = so.faults.read_fault (was kind.ReadFault end h (λ x. cc)) in (call.named, l.1, line kind.ReadFault end h (λ x. cc) (λ x. x)));
+      write_fault = λ h. (let l = so.faults.write_fault (was kind.WriteFault end h (λ x. cc)) in (call.named, l.0, l.1.1, line kind.WriteFault end h (λ x. cc) (λ x. x)));
       if_missing = λ name l. stands kind.NoFile end (so.faults.if_missing name l);
       if_unread = λ name l. stands kind.ReadFault end (so.faults.if_unread name l);
       if_unwritten = λ name bytes l. stands kind.WriteFault end (so.faults.if_unwritten name bytes l);
       refused = λ r h. (
           let x = made.refused r (was (kind.Refused r) end h (λ y. cc)) in
-          let l = line (kind.Refused r) end h (λ y. cc) in
+          let l = line (kind.Refused r) end h (λ y. cc) (λ y. y) in
           record { files = x.0; sources = x.1; is_refusal = x.2; all_read = x.3; line = line_named (kind.Refused r) call.named call.source _ _ e e' x.4 x.5 l }
           );
       if_broken = λ fs ss rs more r all l b. stands (kind.Refused r) end (made.if_broken fs ss rs more r all l b);

@@ -1,5 +1,5 @@
 -- The files of a folder that tells them.
-use Rattle.std.proofs.Common.{◌≡◌, ◌≢◌, ℕ, zero, suc, ◌<◌, List, [], ◌∷◌, ◌++◌, length, Option, Some, None, Result, Ok, Err, false, refl, sym, ap, ◌∙◌, subst, inl, inr, ◌⊎◌, arith, pos}
+use Rattle.std.proofs.Common.{◌≡◌, ◌≢◌, ℕ, zero, suc, List, [], ◌∷◌, ◌++◌, length, Option, Some, None, Result, Ok, Err, false, refl, sym, ap, ◌∙◌, subst, inl, inr, ◌⊎◌, arith, pos}
 use Rattle.std.specs.List.{AllByRecursion, Contains}
 use Rattle.std.proofs.lemmas.List.Elements.{All-from_recursion}
 use Rattle.vg_base.specs.declared.outside.FolderFault.{FolderFault}
@@ -7,9 +7,10 @@ use Rattle.vg_base.specs.declared.outside.FolderFault.TheVariants as fault
 use Rattle.vg_base.specs.declared.outside.Call.{Call}
 use Rattle.vg_base.specs.declared.outside.Call.TheVariants.{Read, Write}
 use Rattle.vg_base.specs.Outside.{Files, FolderView, SinkView, IsAnswer, IsRead, IsWrite, Writes, WritesTold}
-use Rattle.c_reader.specs.declared.refusal.CRefusal.{CRefusal}
-use Rattle.c_reader.specs.Dialect.{Texts, Answers, CReads}
-use Rattle.c_reader.specs.Dialect as reading
+use Rattle.c_tree.specs.declared.kinds.Refusal.{Refusal as CRefusal}
+use Rattle.c_tree.specs.declared.unit.Unit.{Unit as CUnit}
+use Rattle.c_tree.specs.Answers.{Answers}
+use Rattle.c_tree.specs.Laws.{OneAnswer}
 use Rattle.static_rules.specs.declared.rules.Refusal.{Refusal}
 use Rattle.vala_compile.specs.Program.{AreRead}
 use Rattle.vala_compile.specs.Correct.{IsCompiled}
@@ -200,12 +201,12 @@ no_content o s e h = absurd (differ o s e h)
     differ o s e h = cc
 
 -- what is the C of sources is not refused
-pub never_refused : {A : Type 0} (files : List (List ℕ)) (c bytes : List ℕ) (r : CRefusal) → IsCompiled files false c → bytes ≡ c → Answers bytes (length c) (Err r) → A
-never_refused files c bytes r h same (reading.outside small none) = absurd (none h.unit (subst (λ b. CReads b h.unit) (sym same) h.is_unit))
-never_refused files c bytes r h same (reading.large more) = absurd (not_less c bytes same more)
+pub never_refused : {A : Type 0} → OneAnswer → (files : List (List ℕ)) (c bytes : List ℕ) (r : CRefusal) → IsCompiled files false c → bytes ≡ c → Answers bytes (length c) (Err r) → A
+never_refused one files c bytes r h same a =
+    absurd (differ h.unit r (one c (length c) (Ok h.unit) (Err r) h.is_unit (subst (λ b. Answers b (length c) (Err r)) same a)))
   where
-    not_less : (c bytes : List ℕ) → bytes ≡ c → length c < length bytes → ⊥
-    not_less c bytes e lt = let l : length bytes ≡ length c = ap length e in omega arith
+    differ : (unit : CUnit) (r : CRefusal) → Ok unit ≡ Err r → ⊥
+    differ unit r e = cc
 
 -- a file that is held is there
 held : (files : Files) (names sources : List (List ℕ)) (name : List ℕ) → Hold files names sources → Contains names name → (source : List ℕ) × (files name ≡ Some source)
@@ -366,37 +367,37 @@ run_writes k (inl a) x = absurd x
 same_after : (o : Option Files) (a b : Files) → o ≡ Some a → o ≡ Some b → b ≡ a
 same_after o a b e h = cc
 
-pub goes_files : (words : List (List ℕ)) (files after : Files) (f g : FolderView) (o e : SinkView) (calls : List Call) (o' e' : SinkView) (k : Kind) (named source : List ℕ) → After f files → After g after → Chain f calls g → Goes words o e calls o' e' k named source
+pub goes_files : OneAnswer → (words : List (List ℕ)) (files after : Files) (f g : FolderView) (o e : SinkView) (calls : List Call) (o' e' : SinkView) (k : Kind) (named source : List ℕ) → After f files → After g after → Chain f calls g → Goes words o e calls o' e' k named source
     → FilesSo words files after k
-goes_files words files after f g o e calls o' e' k named source is there chain (course.usage n s none) =
+goes_files one words files after f g o e calls o' e' k named source is there chain (course.usage n s none) =
     let same = same_after g.files files after (subst (λ x. After x files) (no_call_more f g chain) is) there in
     subst (λ a. FilesSo words files a kind.Usage) (sym same) (outside_files words files none)
-goes_files words files after f g o e calls o' e' k named source is there chain (course.no_file ns file rs n up) =
+goes_files one words files after f g o e calls o' e' k named source is there chain (course.no_file ns file rs n up) =
     let r = read_up_to f g files up.front up.sources file (Err fault.Missing) rs up.all_read is chain in
     subst (λ a. FilesSo words files a kind.NoFile) (sym (same_after g.files files after r.told there)) (missing_file words files file (is_file words ns up.front file up.behind n up.files_are) r.honest)
-goes_files words files after f g o e calls o' e' k named source is there chain (course.unread ns file rs n up) = unread_files words files after
-goes_files words files after f g o e calls o' e' k named source is there chain (course.refused ns ss rs r all b) =
+goes_files one words files after f g o e calls o' e' k named source is there chain (course.unread ns file rs n up) = unread_files words files after
+goes_files one words files after f g o e calls o' e' k named source is there chain (course.refused ns ss rs r all b) =
     let t = reads_told f g files ns ss rs all is chain in
     subst (λ a. FilesSo words files a (kind.Refused r)) (sym (same_after g.files files after t.0 there)) (broken_files words ns ss files r t.1 b)
-goes_files words files after f g o e calls o' e' k named source is there chain (course.accepted ns ss rs n s c all a) =
+goes_files one words files after f g o e calls o' e' k named source is there chain (course.accepted ns ss rs n s c all a) =
     let t = reads_told f g files ns ss rs all is chain in
     subst (λ a. FilesSo words files a (kind.Ended (pos 0))) (sym (same_after g.files files after t.0 there)) (accepted_files words ns ss files c t.1 a)
-goes_files words files after f g o e calls o' e' k named source is there chain (course.unwritten ns rs c h) =
+goes_files one words files after f g o e calls o' e' k named source is there chain (course.unwritten ns rs c h) =
     let w = read_and_write f g files ns h.sources c (Err fault.Failed) rs h.all_read is chain in
     built_files words ns rs c files after kind.WriteFault h w.holds (λ x. x) (λ x. absurd x) (λ r x. cc) (λ x. cc) (λ r x. cc)
-goes_files words files after f g o e calls o' e' k named source is there chain (course.gone ns rs c h) =
+goes_files one words files after f g o e calls o' e' k named source is there chain (course.gone ns rs c h) =
     let w = all_calls f g files ns h.sources c (Err fault.Missing) rs h.all_read is chain in no_content (w.after (c_file ns)) c w.written w.honest
-goes_files words files after f g o e calls o' e' k named source is there chain (course.unread_back ns rs c h) = unread_files words files after
-goes_files words files after f g o e calls o' e' k named source is there chain (course.c_refused ns rs c b r h a) =
+goes_files one words files after f g o e calls o' e' k named source is there chain (course.unread_back ns rs c h) = unread_files words files after
+goes_files one words files after f g o e calls o' e' k named source is there chain (course.c_refused ns rs c b r h a) =
     let w = all_calls f g files ns h.sources c (Ok b) rs h.all_read is chain in
-    never_refused h.sources c b r h.compiled (one_content (w.after (c_file ns)) b c w.honest w.written) a
-goes_files words files after f g o e calls o' e' k named source is there chain (course.ran ns rs c b unit p q l n t h a r) =
+    never_refused one h.sources c b r h.compiled (one_content (w.after (c_file ns)) b c w.honest w.written) a
+goes_files one words files after f g o e calls o' e' k named source is there chain (course.ran ns rs c b unit p q l n t h a r) =
     let w = all_calls f g files ns h.sources c (Ok b) rs h.all_read is chain in
     let of = (ran_so unit (world_of ns) o o' e e' k r).is_of_run in
     let same = same_after g.files w.after after w.told there in
     built_files words ns rs c files after k h w.holds (λ x. run_writes k of x) (λ x. ap (λ (fs : Files). fs (c_file ns)) same ∙ w.written)
     (λ q. not_of_run k (kind.CRefused q) of (λ y. y) (λ y. cc)) (not_of_run k kind.NoFile of (λ y. y) (λ y. cc)) (λ q. not_of_run k (kind.Refused q) of (λ y. y) (λ y. cc))
-goes_files words files after f g o e calls o' e' k named source is there chain (course.memory cs n s p) = no_memory words files after
+goes_files one words files after f g o e calls o' e' k named source is there chain (course.memory cs n s p) = no_memory words files after
 
 -- 6. The clause
 
@@ -411,11 +412,11 @@ nothing_answered : (answer : Kind) (named source : List ℕ) (e e' : SinkView) (
 nothing_answered answer named source e e' k (inl t) r = subst WritesNothing t.0 r
 nothing_answered answer named source e e' k (inr m) r = absurd (subst WritesNothing m r)
 
-pub told_files : (words : List (List ℕ)) (f f' : FolderView) (o o' e e' : SinkView) (status : Status) → IsCall words f f' o o' e e' status → FilesTold words f f' status
-told_files words f f' o o' e e' status call =
+pub told_files : OneAnswer → (words : List (List ℕ)) (f f' : FolderView) (o o' e e' : SinkView) (status : Status) → IsCall words f f' o o' e e' status → FilesTold words f f' status
+told_files one words f f' o o' e e' status call =
     λ files is.
     let plan = plan_so words files f f' call.calls is call.chain (goes_planned words o e call.calls o' call.middle call.answer call.named call.source call.goes) in
-    let s = goes_files words files plan.after f f' o e call.calls o' call.middle call.answer call.named call.source is plan.told call.chain call.goes in
+    let s = goes_files one words files plan.after f f' o e call.calls o' call.middle call.answer call.named call.source is plan.told call.chain call.goes in
     let end = told call.answer call.named call.source call.middle e' status call.finishes in
     let was = answered call.answer call.named call.source call.middle e' status.kind in
     let unless = unless_memory call.answer call.named call.source call.middle e' status.kind in

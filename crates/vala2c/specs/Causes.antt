@@ -12,11 +12,11 @@ use Rattle.vg_base.specs.declared.event.VEnd.TheVariants as v
 use Rattle.vg_base.specs.Outside.{Files, FolderView, SinkView, AddsCalls, Takes, Rose}
 use Rattle.vg_base.specs.Run.{Begins}
 use Rattle.vg_base.specs.Headline.{printed}
-use Rattle.c_reader.specs.declared.refusal.CRefusal.{CRefusal}
+use Rattle.c_tree.specs.declared.kinds.Refusal.{Refusal as CRefusal}
 use Rattle.static_rules.specs.declared.rules.Refusal.{Refusal}
-use Rattle.vala_compile.specs.Carried.{Program}
+use Rattle.c_emit.specs.Program.{Program}
 use Rattle.vala_compile.specs.Program.{AreRead, Reads}
-use Rattle.vala_compile.specs.VMeaning.{VRun}
+use Rattle.c_emit.specs.VMeaning.{VRun}
 use Rattle.vala_compile.specs.Correct.{IsCompiled}
 use Rattle.vala2c.specs.declared.status.Kind.{Kind}
 use Rattle.vala2c.specs.declared.status.Kind.TheVariants as kind
@@ -61,6 +61,10 @@ SpeaksOf words k named source = Unit {0}
 abbrev pub Says : List (List ℕ) → Kind → SinkView → SinkView → Type 0
 Says words k e e' = (named : List ℕ) × (source : List ℕ) × SpeaksOf words k named source × Takes e (line_of k named source) e'
 
+-- the same behind what a run printed there
+abbrev pub SaysBehind : List (List ℕ) → Kind → SinkView → SinkView → Type 0
+SaysBehind words k e e' = (front : List ℕ) × (named : List ℕ) × (source : List ℕ) × SpeaksOf words k named source × Takes e (front ++ line_of k named source) e'
+
 -- err took this line and nothing else, unless a put on it was refused
 abbrev pub TakesLine : List ℕ → SinkView → SinkView → Type 0
 TakesLine line e e' = Takes e line e' ⊎ Rose e.faults e'.faults
@@ -101,8 +105,9 @@ pub record Causes (words : List (List ℕ)) (f f' : FolderView) (o o' e e' : Sin
   pub faults : f.faults ≤ f'.faults
   pub out_faults : o.faults ≤ o'.faults
   pub err_faults : e.faults ≤ e'.faults
-  -- a program here prints nothing on err, so err takes the message line alone, unless a put is refused or memory runs out
-  pub said : Says words status.kind e e' ⊎ (Rose e.faults e'.faults ⊎ (status.kind ≡ kind.Memory))
+  -- err takes the message line, unless a put is refused or memory runs out: behind what the C printed there, and alone where no C was run
+  pub behind : SaysBehind words status.kind e e' ⊎ (Rose e.faults e'.faults ⊎ (status.kind ≡ kind.Memory))
+  pub said : (AreOfRun words → IsOfRun status.kind → ⊥) → Says words status.kind e e' ⊎ (Rose e.faults e'.faults ⊎ (status.kind ≡ kind.Memory))
   -- out takes nothing where no C was run
   pub silent : (IsOfRun status.kind → ⊥) → status.kind ≢ kind.Memory → o' ≡ o
   -- a check runs nothing
@@ -287,6 +292,8 @@ pub record RunsProgram (words : List (List ℕ)) (files : Files) (o o' e e' : Si
   pub prints : AreOfRun words → IsOfRun k → ProgramPrints words files o o'
   -- nor where memory ran out
   pub only : (o' ≡ o) ⊎ ProgramPrints words files o o'
+  -- a program here prints nothing on err, so err takes the message line alone, unless a put is refused or memory runs out
+  pub said : Says words k e e' ⊎ (Rose e.faults e'.faults ⊎ (k ≡ kind.Memory))
   -- the C never does what has no meaning
   pub defined : (u : UndefKind) → k ≢ kind.Undefined u
 

@@ -9,8 +9,9 @@ use Rattle.vg_base.specs.Outside.{FolderView, SinkView, IsRead, IsWrite, Takes, 
 use Rattle.vg_base.specs.Run.{Begins}
 use Rattle.vg_base.specs.World.{World}
 use Rattle.vg_base.specs.Headline.{printed}
-use Rattle.c_reader.specs.Dialect.{Texts, Answers}
-use Rattle.c_reader.specs.CMeaning.{CRun}
+use Rattle.c_tree.specs.declared.unit.Unit.{Unit as CUnit}
+use Rattle.c_tree.specs.Answers.{Answers}
+use Rattle.c_meaning.specs.Runs.{CRun}
 use Rattle.static_rules.specs.declared.rules.Refusal.{Refusal}
 use Rattle.vala_compile.specs.Program.{AreRead, Refuses, Breaks}
 use Rattle.vala_compile.specs.Correct.{IsCompiled}
@@ -38,14 +39,14 @@ abbrev pub TakesFront : List ℕ → SinkView → SinkView → Type 0
 TakesFront bytes s s' = (front : List ℕ) × Begins front bytes × Takes s front s' × (s.faults ≤ s'.faults)
 
 -- what the run of a unit prints within the budget
-abbrev pub prints_out : Texts → World → List ℕ
+abbrev pub prints_out : CUnit → World → List ℕ
 prints_out unit w = printed stream.Out ((CRun unit w).trace budget)
 
-abbrev pub prints_err : Texts → World → List ℕ
+abbrev pub prints_err : CUnit → World → List ℕ
 prints_err unit w = printed stream.Err ((CRun unit w).trace budget)
 
 -- The run of a unit within the budget, each of its prints on its sink: out goes from o to o', err from e to e'.
-pub data Ran (unit : Texts) (w : World) (o o' e e' : SinkView) : Kind → Type 0 where
+pub data Ran (unit : CUnit) (w : World) (o o' e e' : SinkView) : Kind → Type 0 where
   ended : (end : _) → (CRun unit w).ended budget ≡ Some end → TakesAll (prints_out unit w) o o' → TakesAll (prints_err unit w) e e' → Ran unit w o o' e e' (kind_of_end end)
   spent : (CRun unit w).ended budget ≡ None → TakesAll (prints_out unit w) o o' → TakesAll (prints_err unit w) e e' → Ran unit w o o' e e' kind.StepsSpent
   refused : TakesFront (prints_out unit w) o o' → TakesFront (prints_err unit w) e e' → Rose o.faults o'.faults ⊎ Rose e.faults e'.faults → Ran unit w o o' e e' kind.OutFault
@@ -111,7 +112,7 @@ pub data Goes (words : List (List ℕ)) (o e : SinkView) : List Call → SinkVie
       → Goes words o e (reads ++ Write (c_file files) c (Ok tt) ∷ Read (c_file files) (Err fault.Failed) ∷ []) o e kind.ReadFault (c_file files) []
   c_refused : (files : List (List ℕ)) (reads : List Call) (c bytes : List ℕ) (r : _) → IsBuilt words files reads c → Answers bytes (length c) (Err r)
       → Goes words o e (reads ++ Write (c_file files) c (Ok tt) ∷ Read (c_file files) (Ok bytes) ∷ []) o e (kind.CRefused r) (c_file files) []
-  ran : (files : List (List ℕ)) (reads : List Call) (c bytes : List ℕ) (unit : Texts) (o' e' : SinkView) (k : Kind) (named source : List ℕ) → IsBuilt words files reads c → Answers bytes (length c) (Ok unit)
+  ran : (files : List (List ℕ)) (reads : List Call) (c bytes : List ℕ) (unit : CUnit) (o' e' : SinkView) (k : Kind) (named source : List ℕ) → IsBuilt words files reads c → Answers bytes (length c) (Ok unit)
       → Ran unit (world_of files) o o' e e' k → Goes words o e (reads ++ Write (c_file files) c (Ok tt) ∷ Read (c_file files) (Ok bytes) ∷ []) o' e' k named source
   memory : (calls : List Call) (named source : List ℕ) → IsPlanned words calls → Goes words o e calls o e kind.Memory named source
 

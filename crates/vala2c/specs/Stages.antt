@@ -6,7 +6,8 @@ use Rattle.vg_base.specs.declared.outside.Call.{Call}
 use Rattle.vg_base.specs.declared.outside.Call.TheVariants.{Read, Write}
 use Rattle.vg_base.specs.Outside.{FolderView, SinkView}
 use Rattle.vg_base.specs.World.{World}
-use Rattle.c_reader.specs.Dialect.{Texts, Answers}
+use Rattle.c_tree.specs.declared.unit.Unit.{Unit as CUnit}
+use Rattle.c_tree.specs.Answers.{Answers}
 use Rattle.vala2c.specs.declared.status.Kind.{Kind}
 use Rattle.vala2c.specs.declared.status.Kind.TheVariants as kind
 use Rattle.vala2c.specs.Course.{Chain, AllRead, FrontRead, ReadUpTo, Ran}
@@ -44,7 +45,7 @@ pub data Back (limit : ℕ) (w : World) (o e : SinkView) : Result (List ℕ) Fol
   unread : Back limit w o e (Err fault.Failed) o e kind.ReadFault
   no_memory : (answer : Result (List ℕ) FolderFault) → Back limit w o e answer o e kind.Memory
   c_refused : (bytes : List ℕ) (r : _) → Answers bytes limit (Err r) → Back limit w o e (Ok bytes) o e (kind.CRefused r)
-  ran : (bytes : List ℕ) (unit : Texts) (o' e' : SinkView) (k : Kind) → Answers bytes limit (Ok unit) → Ran unit w o o' e e' k → Back limit w o e (Ok bytes) o' e' k
+  ran : (bytes : List ℕ) (unit : CUnit) (o' e' : SinkView) (k : Kind) → Answers bytes limit (Ok unit) → Ran unit w o o' e e' k → Back limit w o e (Ok bytes) o' e' k
 
 -- The C is written to the file before that.
 pub data Written (target c : List ℕ) (w : World) (o e : SinkView) : List Call → SinkView → SinkView → Kind → Type 0 where

@@ -9,8 +9,9 @@ use Rattle.vg_base.specs.declared.event.UndefKind.{UndefKind}
 use Rattle.vg_base.specs.declared.event.UndefKind.TheVariants as undef
 use Rattle.vg_base.specs.declared.event.CEnd.{CEnd}
 use Rattle.vg_base.specs.declared.event.CEnd.TheVariants as c
-use Rattle.c_reader.specs.declared.refusal.CRefusal.{CRefusal}
-use Rattle.c_reader.specs.Dialect.{cause_name, cause_text}
+use Rattle.c_tree.specs.declared.kinds.Cause.{Cause}
+use Rattle.c_tree.specs.declared.kinds.Cause.TheVariants.{Token, Syntax, Undeclared, Misfit, Twice, Large}
+use Rattle.c_tree.specs.declared.kinds.Refusal.{Refusal as CRefusal}
 use Rattle.static_rules.specs.declared.rules.Refusal.{Refusal}
 use Rattle.static_rules.specs.Rules.{row_of}
 use Rattle.vala2c.specs.declared.status.Kind.{Kind}
@@ -36,6 +37,23 @@ undef_word undef.Kind = codes "kind"
 undef_word undef.Func = codes "func"
 undef_word undef.Divide = codes "divide"
 undef_word undef.Overflow = codes "overflow"
+
+-- the causes for which a text of C is refused, as they are printed: name and text
+abbrev pub cause_name : Cause → List ℕ
+cause_name Token = codes "C1"
+cause_name Syntax = codes "C2"
+cause_name Undeclared = codes "C3"
+cause_name Misfit = codes "C4"
+cause_name Twice = codes "C5"
+cause_name Large = codes "C6"
+
+abbrev pub cause_text : Cause → List ℕ
+cause_text Token = codes "bad token"
+cause_text Syntax = codes "not in the dialect"
+cause_text Undeclared = codes "undeclared"
+cause_text Misfit = codes "type does not fit"
+cause_text Twice = codes "declared twice"
+cause_text Large = codes "too large"
 
 -- the line of a file in which a byte stands, and its column, both counted from 1
 abbrev pub line_at : List ℕ → ℕ → ℕ

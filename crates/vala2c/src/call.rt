@@ -1,9 +1,10 @@
 // One call of the program: from its words, over the folder and the sinks, to its status.
 
-ghost use Rattle.std.specs.Prelude.{◌≡◌, map, [], List, ℕ, get_or};
+ghost use Rattle.std.specs.Prelude.{◌≡◌, map, true, [], List, ℕ, get_or};
 ghost use Rattle.std.specs.String.{string_bytes};
 ghost use Rattle.vg_base.specs.World.{IsName};
 ghost use Rattle.vg_base.specs.Outside.{SinkView};
+ghost use Rattle.c_resolver.specs.Routines.{items_have_code};
 ghost use Rattle.vala2c.specs.Words.{IsCheck, IsRun, c_file, first_of, name_of};
 ghost use Rattle.vala2c.specs.Causes.{Causes, FilesTold, ProgramTold, ToldCalls};
 ghost use Rattle.vala2c.specs.Course.{CallBy, Closes, Finishes, Goes, IsCall, Ran};
@@ -12,8 +13,12 @@ ghost use Rattle.vala2c.specs.Stages.{BackCalls, Stage, Written, write_kind};
 use crate::sources::{kind_of_read, read_files, source_at, word_at};
 use crate::status::{Kind, Status, kind_of, message, when_unheard};
 use crate::words::{c_file_of, files_of, first_word, name_in, none_is};
-use c_machine::{RunEnd, RunFault, load};
-use c_reader::{CUnit, read};
+use c_calls::units_have_code;
+use c_emit::programs_are_quiet;
+use c_grammar::bytes_have_one_answer;
+use c_interpreter::{RunEnd, RunFault, load};
+use c_text_reader::read;
+use c_tree::Unit as CUnit;
 use static_rules::Refusal;
 use std::alloc::Global;
 use vala_compile::{check, compile};
@@ -38,6 +43,8 @@ pub fn vala2c<F: Folder, O: Sink, E: Sink>(
     ensures told_files { FilesTold (map string_bytes words.now) (F.seen folder.old) (F.seen folder.new) result }
     ensures program { ProgramTold (map string_bytes words.now) (F.seen folder.old) (O.seen out.old) (O.seen out.new) (E.seen err.old) (E.seen err.new) result.kind }
 {
+    bytes_have_one_answer();
+    programs_are_quiet();
     one_call(alloc, words, folder, out, err)
 }
 
@@ -154,6 +161,7 @@ fn run_back<F: Folder, O: Sink, E: Sink>(
         Ok(bytes) => bytes,
         Err(fault) => return kind_of_read(fault),
     };
+    units_have_code();
     match read(alloc, &bytes, limit) {
         Ok(unit) => run_unit(alloc, unit, name, out, err),
         Err(Fault::Refused(refusal)) => Kind::CRefused(refusal),
@@ -169,10 +177,11 @@ fn run_unit<O: Sink, E: Sink>(
     out: &mut O,
     err: &mut E,
 ) -> Kind
-    requires { IsName (string_bytes name) }
+    requires named { IsName (string_bytes name) }
+    requires code { items_have_code unit.items ≡ true }
     ensures { Ran unit (record { name = string_bytes name; input = []; entries = [] }) (O.seen out.old) (O.seen out.new) (E.seen err.old) (E.seen err.new) result }
 {
-    let Ok(mut machine) = load(alloc, unit, Vec::new(alloc), name) else {
+    let Ok(mut machine) = load(alloc, unit, Vec::new(alloc), name, false) else {
         return Kind::Memory;
     };
     match machine.run(BUDGET, out, err) {

@@ -3,16 +3,16 @@
 ghost use Rattle.std.specs.Prelude.{◌≡◌, ◌+◌, ◌==◌, [], ◌∷◌, ◌++◌, IfOk, count_by, codes};
 ghost use Rattle.std.specs.Fmt.{decimal};
 ghost use Rattle.std.specs.String.{string_bytes};
-ghost use Rattle.vala2c.specs.Status.{line_of, exit_byte, kind_of_end, unheard, trap_word, undef_word, refusal_line, c_refusal_line, located_line, source_place as place_in};
+ghost use Rattle.vala2c.specs.Status.{cause_name as name_of_cause, cause_text as text_of_cause, line_of, exit_byte, kind_of_end, unheard, trap_word, undef_word, refusal_line, c_refusal_line, located_line, source_place as place_in};
 
 use crate::words::{after_last_byte, front};
-use c_reader::{CRefusal, cause_name, cause_text};
+use c_tree::{Cause, Refusal as CRefusal};
 use static_rules::{Refusal, rule_name, rule_text};
 use std::alloc::{AllocError, Global};
 use vg_base::{CEnd, TrapKind, UndefKind};
 
 /// How a call of the program ended.
-#[derive(Clone, Copy, Debug)]
+#[derive(Clone, Copy)]
 pub enum Kind {
     /// The program ended with this code.
     Ended(i32),
@@ -36,7 +36,7 @@ pub enum Kind {
 }
 
 /// A status, and the exit byte that tells it.
-#[derive(Clone, Copy, Debug)]
+#[derive(Clone, Copy)]
 pub struct Status {
     pub kind: Kind,
     pub code: u8,
@@ -180,6 +180,34 @@ fn refused_message(
         rule_name(refusal.rule),
         rule_text(refusal.rule),
     )
+}
+
+// The name of a cause for which a text of C is refused.
+fn cause_name(cause: Cause) -> &'static str
+    ensures { result.now ≡ name_of_cause cause }
+{
+    match cause {
+        Cause::Token => "C1",
+        Cause::Syntax => "C2",
+        Cause::Undeclared => "C3",
+        Cause::Misfit => "C4",
+        Cause::Twice => "C5",
+        Cause::Large => "C6",
+    }
+}
+
+// What the cause says.
+fn cause_text(cause: Cause) -> &'static str
+    ensures { result.now ≡ text_of_cause cause }
+{
+    match cause {
+        Cause::Token => "bad token",
+        Cause::Syntax => "not in the dialect",
+        Cause::Undeclared => "undeclared",
+        Cause::Misfit => "type does not fit",
+        Cause::Twice => "declared twice",
+        Cause::Large => "too large",
+    }
 }
 
 fn c_refused_message(alloc: Global, refusal: CRefusal, file: &str) -> Result<String, AllocError>

@@ -51,8 +51,8 @@ fn programs_run(rt: HostRuntime) -> Result<(), Fail> {
         let (status, out, err) = call(alloc, &["run", "a.vala", "b.vala"], &files)?;
         assert!(rt;
             matches!(status.kind, Kind::Ended(0)),
-            "{text}: {:?}",
-            status.kind
+            "{text}: {}",
+            status.exit_code()
         );
         assert_eq!(rt; status.exit_code(), 0);
         assert_eq!(rt; out.taken(), prints.as_bytes(), "{text}");
@@ -130,7 +130,7 @@ fn an_output_that_fails(rt: HostRuntime) -> Result<(), Fail> {
     let mut err = GoodSink::new(alloc);
     let words = words(alloc, &["run", "a.vala"])?;
     let status = vala2c(alloc, &words, &mut folder, &mut out, &mut err);
-    assert!(rt; matches!(status.kind, Kind::OutFault), "{:?}", status.kind);
+    assert!(rt; matches!(status.kind, Kind::OutFault));
     assert_eq!(rt; status.exit_code(), 6);
     assert_eq!(rt; out.taken(), b"ab".as_slice());
     assert_eq!(rt; err.taken(), b"vala2c: output failed\n".as_slice());

@@ -5,8 +5,5 @@ pub mod Files
 pub mod Once
 pub mod Determined
 pub mod Denoted
-pub mod Emitting
-pub mod Simulation
 pub mod Theorem
 pub mod Held
-pub mod Counts

@@ -6,7 +6,8 @@ use Rattle.static_rules.specs.declared.rules.Refusal.{Refusal}
 use Rattle.vala_tree.specs.declared.member.FileTree.{FileTree}
 use Rattle.vala_lexer.specs.Tokens.{Lexeme}
 use Rattle.vala_file_grammar.specs.FileAnswer.{Answers, HasOneAnswer}
-use Rattle.vala_compile.specs.Carried.{Program, IsProgram, Leaves}
+use Rattle.c_emit.specs.Program.{Program}
+use Rattle.vala_compile.specs.Carried.{IsProgram, Leaves}
 use Rattle.vala_compile.specs.Program.{AreFiles, AreRead, most_files, Refuses, faulty, over, behind_most, Joined, Reads, Breaks, none, refused, outside, left_out}
 use Rattle.vala_compile.specs.Steps.{outcome}
 use Rattle.vala_compile.specs.Correct.{IsCompiled}

@@ -9,7 +9,8 @@ use Rattle.vala_compile.specs.declared.role.Role.{Role}
 use Rattle.vala_compile.specs.declared.role.Role.TheVariants as role
 use Rattle.vala_compile.specs.declared.reader.Expected.{Expected}
 use Rattle.vala_compile.specs.declared.reader.Expected.TheVariants as expected
-use Rattle.vala_compile.specs.Carried.{Program, role_of, Is, IsText, Calls, last, call, IsProgram, whole, Begins, start_of, Leaves, at_token, too_early}
+use Rattle.c_emit.specs.Program.{Program}
+use Rattle.vala_compile.specs.Carried.{role_of, Is, IsText, Calls, last, call, IsProgram, whole, Begins, start_of, Leaves, at_token, too_early}
 use Rattle.vala_compile.specs.Quoted.{quoted}
 use Rattle.vala_compile.specs.Steps.{State, start, behind, Stepped, with_text, step_to, step, and_then, steps, at_end_by, at_end, outcome_of, outcome}
 use Rattle.vala_compile.proofs.Quoting.{quotes_read, read_quotes}

@@ -2,6 +2,7 @@
 use Rattle.std.specs.Prelude.{◌≡◌, ℕ, if◌then◌else◌, List, [], ◌∷◌, ◌++◌, codes}
 use Rattle.vg_base.specs.declared.event.Span.{Span}
 use Rattle.vg_base.specs.Small.{Denotes}
+use Rattle.c_emit.specs.Program.{Program}
 use Rattle.vala_lexer.specs.declared.token.Token.{Token}
 use Rattle.vala_lexer.specs.Tokens.{Lexeme}
 use Rattle.vala_grammar.specs.declared.sort.Sort.{Sort}
@@ -10,10 +11,6 @@ use Rattle.vala_grammar.specs.Sorts.{sort}
 use Rattle.vala_grammar.specs.Trees.{same_bytes}
 use Rattle.vala_compile.specs.declared.role.Role.{Role}
 use Rattle.vala_compile.specs.declared.role.Role.TheVariants as role
-
--- A program: the texts that its calls of `print` print, in order.
-abbrev pub Program : Type 0
-Program = List (List ℕ)
 
 -- a token of the program, without where its letters lie in memory
 abbrev pub lexeme : Token → Lexeme

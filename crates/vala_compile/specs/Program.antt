@@ -6,7 +6,8 @@ use Rattle.static_rules.specs.declared.rules.Refusal.{Refusal}
 use Rattle.vala_lexer.specs.Tokens.{Lexeme, Tokens, all_of}
 use Rattle.vala_tree.specs.declared.member.FileTree.{FileTree}
 use Rattle.vala_file_grammar.specs.FileAnswer.{Answers, most_bytes, too_large}
-use Rattle.vala_compile.specs.Carried.{Program, IsProgram, Leaves, start_of}
+use Rattle.c_emit.specs.Program.{Program}
+use Rattle.vala_compile.specs.Carried.{IsProgram, Leaves, start_of}
 
 -- ---- phase 1: each file by itself
 

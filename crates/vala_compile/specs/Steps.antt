@@ -12,7 +12,8 @@ use Rattle.vala_compile.specs.declared.role.Role.TheVariants as role
 use Rattle.vala_compile.specs.declared.reader.Expected.{Expected}
 use Rattle.vala_compile.specs.declared.reader.Expected.TheVariants as expected
 use Rattle.vala_compile.specs.declared.reader.Reader.{Reader}
-use Rattle.vala_compile.specs.Carried.{Program, role_of, start_of}
+use Rattle.c_emit.specs.Program.{Program}
+use Rattle.vala_compile.specs.Carried.{role_of, start_of}
 use Rattle.vala_compile.specs.Quoted.{quoted}
 use Rattle.vala_compile.specs.Program.{left_out}
 

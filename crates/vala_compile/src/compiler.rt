@@ -5,8 +5,9 @@ ghost use Rattle.vg_base.specs.World.{IsName};
 ghost use Rattle.vala_compile.specs.Correct.{Compiles};
 
 use crate::checker::check;
-use crate::emit::emit;
 use crate::read::read;
+use c_emit::{emit, emitted_units_run, emitted_units_stay_within};
+use c_places::texts_stand_apart;
 use static_rules::Refusal;
 use std::alloc::Global;
 use vg_base::Fault;
@@ -32,6 +33,9 @@ pub fn compile(
 {
     check(alloc, files, strict_null)?;
     let program = read(alloc, files)?;
+    texts_stand_apart();
+    emitted_units_run();
+    emitted_units_stay_within();
     match emit(alloc, &program) {
         Ok(c) => Ok(Emitted { c }),
         Err(_) => Err(Fault::Memory),

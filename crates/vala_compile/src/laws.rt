@@ -2,7 +2,7 @@
 
 ghost use Rattle.std.specs.Prelude.{◌≡◌, ℕ, Bool, List, ◌∷◌};
 ghost use Rattle.static_rules.specs.declared.rules.Refusal.{Refusal};
-ghost use Rattle.vala_compile.specs.Carried.{Program};
+ghost use Rattle.c_emit.specs.Program.{Program};
 ghost use Rattle.vala_compile.specs.Program.{Reads, Breaks};
 ghost use Rattle.vala_compile.specs.Correct.{IsCompiled};
 

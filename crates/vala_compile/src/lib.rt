@@ -1,9 +1,8 @@
-// Compiles Vala to C, and holds what a Vala program means.
+// Compiles Vala to C.
 #![tactic(auto)]
 
 mod checker;
 mod compiler;
-mod emit;
 mod laws;
 mod quoted;
 mod read;

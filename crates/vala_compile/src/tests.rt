@@ -39,7 +39,7 @@ fn compiled(alloc: Global, files: &[Vec<u8>]) -> Result<String, AllocError> {
 const HI: &str = "void main () { print (\"hi\\n\"); }";
 
 const HI_IN_C: &str =
-    "#include <glib.h>\n\nint\nmain (int argc, char **argv)\n{\n  g_print (\"hi\\n\");\n  return 0;\n}\n";
+    "#include <glib.h>\n\nint main (int argc, char **argv)\n{\n    g_print (\"hi\\n\");\n    return 0;\n}\n";
 
 #[test]
 fn checks_files(rt: HostRuntime) -> Result<(), Fail> {
@@ -182,6 +182,8 @@ fn takes_the_largest_file(rt: HostRuntime) -> Result<(), Fail> {
     let files = vec![in alloc; bytes]?;
     let emitted = compile(alloc, &files, "hi", false)?;
     let c = emitted.c.as_slice();
-    assert!(rt; c.ends_with(b"{\n  g_print (\"\\\"\\\\\");\n  g_print (\"b\");\n  return 0;\n}\n"));
+    assert!(rt;
+        c.ends_with(b"{\n    g_print (\"\\\"\\\\\");\n    g_print (\"b\");\n    return 0;\n}\n")
+    );
     Ok(())
 }

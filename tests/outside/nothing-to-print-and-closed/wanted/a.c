@@ -1,7 +1,6 @@
 #include <glib.h>
 
-int
-main (int argc, char **argv)
+int main (int argc, char **argv)
 {
-  return 0;
+    return 0;
 }

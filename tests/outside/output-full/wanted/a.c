@@ -1,8 +1,7 @@
 #include <glib.h>
 
-int
-main (int argc, char **argv)
+int main (int argc, char **argv)
 {
-  g_print ("hi\n");
-  return 0;
+    g_print ("hi\n");
+    return 0;
 }

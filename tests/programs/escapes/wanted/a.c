@@ -1,9 +1,8 @@
 #include <glib.h>
 
-int
-main (int argc, char **argv)
+int main (int argc, char **argv)
 {
-  g_print ("a \"b\"\n");
-  g_print ("c\\d\n");
-  return 0;
+    g_print ("a \"b\"\n");
+    g_print ("c\\d\n");
+    return 0;
 }

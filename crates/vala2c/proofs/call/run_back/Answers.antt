@@ -6,6 +6,9 @@ pub returns-in-Err : goal.returns-in-Err
 returns-in-Err g c =
     rw c.kind_of_read.ensures (reads _ _ _ _ _ _ _ _ _ _ _ c.in-Err.ensures (back_fault _ _ _ _ _))
 
+pub run_unit-requires-clause-code : goal.run_unit-requires-clause-code
+run_unit-requires-clause-code g c = c.units_have_code.ensures _ _ _ (rw c.deref.ensures.value at c.in-Ok-read.ensures)
+
 pub returns-in-Ok-read : goal.returns-in-Ok-read
 returns-in-Ok-read g c = reads _ _ _ _ _ _ _ _ _ _ _ c.in-Ok.ensures (stage.ran _ _ _ _ _ (rw c.deref.ensures.value at c.in-Ok-read.ensures) c.run_unit.ensures)
 

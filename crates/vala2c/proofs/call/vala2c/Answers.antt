@@ -11,7 +11,7 @@ pub returns-clause-told_calls : goal.returns-clause-told_calls
 returns-clause-told_calls g c = told_calls _ _ _ _ _ _ _ _ c.one_call.ensures.call
 
 pub returns-clause-told_files : goal.returns-clause-told_files
-returns-clause-told_files g c = told_files _ _ _ _ _ _ _ _ c.one_call.ensures.call
+returns-clause-told_files g c = told_files c.bytes_have_one_answer.ensures _ _ _ _ _ _ _ _ c.one_call.ensures.call
 
 pub returns-clause-program : goal.returns-clause-program
-returns-clause-program g c = program_told _ _ _ _ _ _ _ _ c.one_call.ensures.call
+returns-clause-program g c = program_told c.bytes_have_one_answer.ensures c.programs_are_quiet.ensures _ _ _ _ _ _ _ _ c.one_call.ensures.call

@@ -18,4 +18,5 @@ returns-in_err-program c =
 
 pub returns-in-Ok : goal.returns-in-Ok
 returns-in-Ok c =
-    compiled (bytes_of c.args.files.now) c.args.strict_null c.in_ok-program.program c.deref.result.now c.in-Ok.c.items c.in_ok-check.ensures c.in_ok-program.ensures c.deref.ensures.value c.in-Ok.ensures
+    compiled (bytes_of c.args.files.now) c.args.strict_null c.in_ok-program.program c.deref.result.now c.in-Ok.c.items c.texts_stand_apart.ensures c.emitted_units_run.ensures c.emitted_units_stay_within.ensures
+    c.in_ok-check.ensures c.in_ok-program.ensures c.deref.ensures.value c.in-Ok.ensures

@@ -1,3 +1,0 @@
-pub mod StepCounts
-pub mod StepLaws
-pub mod PrintsTaken

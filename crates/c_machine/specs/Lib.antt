@@ -1,4 +1,0 @@
-pub mod Progress
-pub mod Kept
-pub mod Runs
-pub mod Laws

@@ -1,2 +1,0 @@
-pub mod Dialect
-pub mod CMeaning
