@@ -4,7 +4,103 @@ use crate::names::Declared;
 use c_nodes::{Meaning, Role};
 
 /// What is in scope in front of a unit.
-pub const LIBRARY: [Declared<'static>; 38] = [
+pub const LIBRARY: [Declared<'static>; 62] = [
+    Declared {
+        name: b"g_error_matches",
+        role: Role::Row(false),
+    },
+    Declared {
+        name: b"g_propagate_error",
+        role: Role::Row(false),
+    },
+    Declared {
+        name: b"g_error_free",
+        role: Role::Row(false),
+    },
+    Declared {
+        name: b"g_error_copy",
+        role: Role::Row(false),
+    },
+    Declared {
+        name: b"g_error_new",
+        role: Role::Row(false),
+    },
+    Declared {
+        name: b"g_quark_from_static_string",
+        role: Role::Row(false),
+    },
+    Declared {
+        name: b"vala_rt_read_line",
+        role: Role::Row(false),
+    },
+    Declared {
+        name: b"g_error",
+        role: Role::Row(false),
+    },
+    Declared {
+        name: b"g_printerr",
+        role: Role::Row(false),
+    },
+    Declared {
+        name: b"g_ascii_strtoll",
+        role: Role::Row(false),
+    },
+    Declared {
+        name: b"g_strstr_len",
+        role: Role::Row(false),
+    },
+    Declared {
+        name: b"g_str_has_suffix",
+        role: Role::Row(false),
+    },
+    Declared {
+        name: b"g_str_has_prefix",
+        role: Role::Row(false),
+    },
+    Declared {
+        name: b"strlen",
+        role: Role::Row(false),
+    },
+    Declared {
+        name: b"g_strcmp0",
+        role: Role::Row(false),
+    },
+    Declared {
+        name: b"g_strdup_printf",
+        role: Role::Row(false),
+    },
+    Declared {
+        name: b"g_strconcat",
+        role: Role::Row(false),
+    },
+    Declared {
+        name: b"g_strndup",
+        role: Role::Row(false),
+    },
+    Declared {
+        name: b"g_strdup",
+        role: Role::Row(false),
+    },
+    Declared {
+        name: b"g_free",
+        role: Role::Row(false),
+    },
+    Declared {
+        name: b"g_renew",
+        role: Role::Row(true),
+    },
+    Declared {
+        name: b"g_new0",
+        role: Role::Row(true),
+    },
+    Declared {
+        name: b"g_slice_free",
+        role: Role::Row(true),
+    },
+    Declared {
+        name: b"g_slice_new0",
+        role: Role::Row(true),
+    },
     Declared {
         name: b"g_print",
         role: Role::Row(false),

@@ -208,9 +208,9 @@ member_again : Refused (codes "typedef enum { A = 1, A = 2 } E; int main (int ar
 unfolding Rattle.c_lexer.specs.Tokens.next_of Rattle.c_lexer.specs.Blanks.blanks_within Rattle.c_lexer.specs.Cut.cut Rattle.c_tree.specs.declared.code.Stmt.TheViews.out-Stmt denote.Hole.Carrier.out Rattle.c_tree.specs.declared.code.Shape.TheViews.out-Shape Rattle.c_tree.specs.declared.code.Shape.TheViews.out-Suffix Rattle.c_tree.specs.declared.code.Shape.TheBlock.shown-the_row-Expr-0 Rattle.c_tree.specs.declared.code.Shape.TheBlock.shown-the_row-Suffix-1 Rattle.c_tree.specs.declared.code.Shape.TheBlock.shown-the_row-Link-2 Rattle.c_tree.specs.declared.code.Shape.TheBlock.shown-the_row-Choice-3 denote.Hole.Carrier.shown denote.Hole.Carrier.hidden Rattle.c_tree.specs.declared.code.Stmt.TheBlock.shown-the_row-Stmt-0
 member_again = refused (codes "typedef enum { A = 1, A = 2 } E; int main (int argc, char **argv) {  return 0; }") (record { cause = cause.Twice; at = 22 }) (found (codes "typedef enum { A = 1, A = 2 } E; int main (int argc, char **argv) {  return 0; }") (omega arith)) refl
 
-row_to_come : Refused (codes "int main (int argc, char **argv) { g_free (NULL); return 0; }") cause.Undeclared 35
+row_to_come : Refused (codes "int main (int argc, char **argv) { g_object_unref (NULL); return 0; }") cause.Undeclared 35
 unfolding Rattle.c_lexer.specs.Tokens.next_of Rattle.c_lexer.specs.Blanks.blanks_within Rattle.c_lexer.specs.Cut.cut Rattle.c_tree.specs.declared.code.Stmt.TheViews.out-Stmt denote.Hole.Carrier.out Rattle.c_tree.specs.declared.code.Shape.TheViews.out-Shape Rattle.c_tree.specs.declared.code.Shape.TheViews.out-Suffix Rattle.c_tree.specs.declared.code.Shape.TheBlock.shown-the_row-Expr-0 Rattle.c_tree.specs.declared.code.Shape.TheBlock.shown-the_row-Suffix-1 Rattle.c_tree.specs.declared.code.Shape.TheBlock.shown-the_row-Link-2 Rattle.c_tree.specs.declared.code.Shape.TheBlock.shown-the_row-Choice-3 denote.Hole.Carrier.shown denote.Hole.Carrier.hidden Rattle.c_tree.specs.declared.code.Stmt.TheBlock.shown-the_row-Stmt-0
-row_to_come = refused (codes "int main (int argc, char **argv) { g_free (NULL); return 0; }") (record { cause = cause.Undeclared; at = 35 }) (found (codes "int main (int argc, char **argv) { g_free (NULL); return 0; }") (omega arith)) refl
+row_to_come = refused (codes "int main (int argc, char **argv) { g_object_unref (NULL); return 0; }") (record { cause = cause.Undeclared; at = 35 }) (found (codes "int main (int argc, char **argv) { g_object_unref (NULL); return 0; }") (omega arith)) refl
 
 format : Refused (codes "int main (int argc, char **argv) { g_print (1); return 0; }") cause.Misfit 44
 unfolding Rattle.c_lexer.specs.Tokens.next_of Rattle.c_lexer.specs.Blanks.blanks_within Rattle.c_lexer.specs.Cut.cut Rattle.c_tree.specs.declared.code.Stmt.TheViews.out-Stmt denote.Hole.Carrier.out Rattle.c_tree.specs.declared.code.Shape.TheViews.out-Shape Rattle.c_tree.specs.declared.code.Shape.TheViews.out-Suffix Rattle.c_tree.specs.declared.code.Shape.TheBlock.shown-the_row-Expr-0 Rattle.c_tree.specs.declared.code.Shape.TheBlock.shown-the_row-Suffix-1 Rattle.c_tree.specs.declared.code.Shape.TheBlock.shown-the_row-Link-2 Rattle.c_tree.specs.declared.code.Shape.TheBlock.shown-the_row-Choice-3 denote.Hole.Carrier.shown denote.Hole.Carrier.hidden Rattle.c_tree.specs.declared.code.Stmt.TheBlock.shown-the_row-Stmt-0

@@ -57,7 +57,7 @@ pub record RefusedTexts : Type 0 where
   pub other_prototype : Refused (codes "gint f (void); gint f (gint a); int main (int argc, char **argv) {  return 0; }") cause.Twice 20
   pub struct_again : Refused (codes "typedef struct _P P; struct _P { gint x; }; struct _P { gint x; }; int main (int argc, char **argv) {  return 0; }") cause.Twice 51
   pub member_again : Refused (codes "typedef enum { A = 1, A = 2 } E; int main (int argc, char **argv) {  return 0; }") cause.Twice 22
-  pub row_to_come : Refused (codes "int main (int argc, char **argv) { g_free (NULL); return 0; }") cause.Undeclared 35
+  pub row_to_come : Refused (codes "int main (int argc, char **argv) { g_object_unref (NULL); return 0; }") cause.Undeclared 35
   pub format : Refused (codes "int main (int argc, char **argv) { g_print (1); return 0; }") cause.Misfit 44
   pub label_again : Refused (codes "int main (int argc, char **argv) { L: ; L: ; return 0; }") cause.Twice 40
   pub result : Refused (codes "gint f (void); int main (int argc, char **argv) { gchar *s; s = f (); return 0; }") cause.Misfit 64

@@ -182,10 +182,6 @@ type_row x ps = record { name = x; takes_type = true; parameters = ps; result = 
 abbrev pub null : RowParameter
 null = Exactly (Word constant.Null)
 
--- The functions that the machine has. A unit can name these alone.
-abbrev pub present_rows : List Row
-present_rows = row (codes "g_print") (Pointer ∷ Any ∷ []) void ∷ []
-
 -- blocks and arrays
 abbrev pub block_rows : List Row
 block_rows =
@@ -224,6 +220,10 @@ error_rows =
     ∷ row (codes "g_propagate_error") (Pointer ∷ Pointer ∷ []) void
     ∷ row (codes "g_error_matches") (Pointer ∷ Number uint ∷ Number int ∷ []) int
     ∷ []
+
+-- The functions that the machine has. A unit can name these alone.
+abbrev pub present_rows : List Row
+present_rows = row (codes "g_print") (Pointer ∷ Any ∷ []) void ∷ block_rows ++ text_rows ++ error_rows
 
 -- types and objects
 abbrev pub type_rows : List Row
@@ -304,7 +304,7 @@ loop_rows =
 
 -- The functions that the machine does not have yet. To a unit they are undeclared; one that it gets moves up.
 abbrev pub later_rows : List Row
-later_rows = block_rows ++ text_rows ++ error_rows ++ type_rows ++ property_rows ++ signal_rows ++ loop_rows
+later_rows = type_rows ++ property_rows ++ signal_rows ++ loop_rows
 
 -- the function with a number, which is its place among those that are present
 abbrev pub row_at : List Row → ℕ → Option Row
