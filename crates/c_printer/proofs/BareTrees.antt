@@ -8,12 +8,12 @@ use Rattle.c_tree.specs.declared.operators.PrefixOperator.{PrefixOperator}
 use Rattle.c_tree.specs.declared.code.Expr.{Expr, out-Expr, roll-Expr}
 use Rattle.c_tree.specs.declared.code.Shape.{Shape, out-Shape, roll-Shape}
 use Rattle.c_tree.specs.declared.code.Shape.TheVariants as shape
-use Rattle.c_tree.specs.declared.code.Suffix.{Suffix, out-Suffix}
+use Rattle.c_tree.specs.declared.code.Suffix.{Suffix, out-Suffix, roll-Suffix}
 use Rattle.c_tree.specs.declared.code.Suffix.TheVariants as suffix
 use Rattle.c_tree.specs.declared.code.Choice.{Choice, out-Choice, roll-Choice}
 use Rattle.c_tree.specs.declared.code.Link.{Link, out-Link, roll-Link}
 use Rattle.c_tree.specs.declared.code.Shape.TheOpen.{Shape-F, Suffix-F, Expr-F}
-use Rattle.c_tree.specs.declared.code.Shape.TheFolds.{fold-roll-Shape, fold-Shape, fold-Suffix, fold-Choice, fold-Link, fold_out-Expr, fold_out-Shape, fold_out-Suffix, fold_out-Choice, fold_out-Link, map-Shape, map-Suffix}
+use Rattle.c_tree.specs.declared.code.Shape.TheFolds.{fold-roll-Shape, fold-roll-Suffix, fold-Shape, fold-Suffix, fold-Choice, fold-Link, fold_out-Expr, fold_out-Shape, fold_out-Suffix, fold_out-Choice, fold_out-Link, map-Shape, map-Suffix}
 use Rattle.c_tree.specs.Make.{expr, span_of, shape_of, link, choice, bracketed, last_operand, suffix_span, last_suffix}
 use Rattle.c_tree.specs.Values.{is_place, is_place_layer, begins_with_deref, is_deref, is_dot_layer}
 use Rattle.c_tree.specs.Bare.{nowhere, bare_operator, bare_prefix, bare_shape, bare_suffix, bare_expr}
@@ -112,11 +112,14 @@ bare_of_link = fold-Link Shape Suffix Choice Expr Link bare_shape bare_suffix ro
 abbrev pub bare_layer : Shape-F Shape Suffix Choice Expr Link → Shape-F Shape Suffix Choice Expr Link
 bare_layer = map-Shape Shape Suffix Choice Expr Link Shape Suffix Choice Expr Link bare_of_shape bare_of_suffix bare_of_choice bare_expr bare_of_link
 
-bare_out : (e : Expr) → bare_expr e ≡ expr (bare_of_shape (shape_of e)) nowhere
+pub bare_out : (e : Expr) → bare_expr e ≡ expr (bare_of_shape (shape_of e)) nowhere
 bare_out e = fold_out-Expr Shape Suffix Choice Expr Link bare_shape bare_suffix roll-Choice place_free roll-Link e
 
 bare_shape_out : (s : Shape) → bare_of_shape s ≡ bare_shape (bare_layer (out-Shape s))
 bare_shape_out s = fold_out-Shape Shape Suffix Choice Expr Link bare_shape bare_suffix roll-Choice place_free roll-Link s
+
+pub shape_rolled : (l : Shape-F Shape Suffix Choice Expr Link) → bare_of_shape (roll-Shape l) ≡ bare_shape (bare_layer l)
+shape_rolled l = fold-roll-Shape Shape Suffix Choice Expr Link bare_shape bare_suffix roll-Choice place_free roll-Link l
 
 pub choice_bare : (a b : Expr) → bare_of_choice (choice a b) ≡ choice (bare_expr a) (bare_expr b)
 choice_bare a b = fold_out-Choice Shape Suffix Choice Expr Link bare_shape bare_suffix roll-Choice place_free roll-Link (choice a b)
@@ -133,6 +136,9 @@ bare_at l o = bare_out (expr (shape_at l) o) ∙ ap (λ x. expr (bare_of_shape x
 
 abbrev pub bare_suffix_layer : Suffix-F Shape Suffix Choice Expr Link → Suffix-F Shape Suffix Choice Expr Link
 bare_suffix_layer = map-Suffix Shape Suffix Choice Expr Link Shape Suffix Choice Expr Link bare_of_shape bare_of_suffix bare_of_choice bare_expr bare_of_link
+
+pub suffix_rolled : (l : Suffix-F Shape Suffix Choice Expr Link) → bare_of_suffix (roll-Suffix l) ≡ bare_suffix (bare_suffix_layer l)
+suffix_rolled l = fold-roll-Suffix Shape Suffix Choice Expr Link bare_shape bare_suffix roll-Choice place_free roll-Link l
 
 pub suffix_bare_at : (l : Suffix-F Shape Suffix Choice Expr Link) → bare_of_suffix (suffix_at l) ≡ bare_suffix (bare_suffix_layer l)
 suffix_bare_at l = suffix_bare (suffix_at l) ∙ ap (λ x. bare_suffix (bare_suffix_layer x)) (suffix_out_at l)

@@ -26,4 +26,6 @@ mod Nesting
 mod NestingValues
 mod NestingItems
 mod DepthLemmas
+mod PlacelessValues
+mod PlacelessUnits
 mod UnitReading

@@ -12,7 +12,7 @@ use Rattle.c_tree.specs.Words.{Token, Word, plain, words, words_behind, Other, B
 use Rattle.c_tree.specs.Names.{Names, with_item, library_names}
 use Rattle.c_tree.specs.Items as it
 use Rattle.c_tree.specs.Items.{ReadsItem, ReadsItems, no_item, more_items, is_include}
-use Rattle.c_tree.specs.Bare.{bare_item, bare}
+use Rattle.c_tree.specs.Bare.{bare_item, bare, SameUnit}
 use Rattle.c_tree.specs.declared.unit.Unit.{Unit as CUnit}
 use Rattle.c_lexer.specs.declared.token.BadToken.{BadToken}
 use Rattle.c_lexer.specs.Laws.{Covers}
@@ -25,6 +25,7 @@ use Rattle.c_printer.specs.Alike.{Alike, none, one}
 use Rattle.c_printer.specs.Marks.{Mark, Marks, Name, AKeyword, AConstant, Number, Chars, Character, ASign, Space, Line, word, put_mark, put_marks}
 use Rattle.c_tree.specs.Answers.{IsWellFormed}
 use Rattle.c_printer.specs.Printed.{IsTextOf}
+use Rattle.c_printer.proofs.PlacelessUnits.{unit_moves}
 use Rattle.c_printer.proofs.Inner.{IsInner, AreInner, IsFile, IsWritableItem, AreWritableItems}
 use Rattle.c_printer.specs.Laws.{TokensAreRead}
 use Rattle.c_printer.specs.Put.{AreBytes}
@@ -300,12 +301,27 @@ text_read style lexed covers u bytes e nests h =
     }
 
 -- a text in which no more than 64 brackets are open
-pub shallow_read : (style : Brackets) → TokensAreRead → TokensCover → (u : CUnit) (bytes : List ℕ) → bytes ≡ (put_marks empty (unit_marks style u)).bytes → IsShallowText bytes → IsWellFormed u → IsTextOf u bytes
+shallow_read : (style : Brackets) → TokensAreRead → TokensCover → (u : CUnit) (bytes : List ℕ) → bytes ≡ (put_marks empty (unit_marks style u)).bytes → IsShallowText bytes → IsWellFormed u → IsTextOf u bytes
 shallow_read style lexed covers u bytes e shallow h = text_read style lexed covers u bytes e (λ ts. sym (marks_shallow [] empty true (unit_marks style u)) ∙ shallow (lexemes empty true (unit_marks style u)) ts) h
 
 -- a text with the brackets that are needed
-pub needed_read : TokensAreRead → TokensCover → (u : CUnit) (bytes : List ℕ) → bytes ≡ (put_marks empty (unit_marks Needed u)).bytes → IsWellFormed u → IsTextOf u bytes
+needed_read : TokensAreRead → TokensCover → (u : CUnit) (bytes : List ℕ) → bytes ≡ (put_marks empty (unit_marks Needed u)).bytes → IsWellFormed u → IsTextOf u bytes
 needed_read lexed covers u bytes e h = text_read Needed lexed covers u bytes e (λ ts. needed_nests h.2.reads.items h.2.reads.shallow) h
+
+-- a text of one unit is a text of the same at other places
+text_moves : (a b : CUnit) (bytes : List ℕ) → SameUnit a b → IsTextOf a bytes → IsTextOf b bytes
+text_moves a b bytes e t = record { read = t.read; reads = t.reads; same = t.same ∙ e }
+
+-- the same where the unit was read, and then written from other places
+pub shallow_read_at : (style : Brackets) → TokensAreRead → TokensCover → (u : CUnit) (bytes : List ℕ) → bytes ≡ (put_marks empty (unit_marks style u)).bytes → IsShallowText bytes
+    → (p : CUnit) → IsWellFormed p → SameUnit p u → IsTextOf u bytes
+shallow_read_at style lexed covers u bytes e shallow p h same =
+    text_moves p u bytes same (shallow_read style lexed covers p bytes (e ∙ ap (λ ms. (put_marks empty ms).bytes) (sym (unit_moves style p u same))) shallow h)
+
+pub needed_read_at : TokensAreRead → TokensCover → (u : CUnit) (bytes : List ℕ) → bytes ≡ (put_marks empty (unit_marks Needed u)).bytes
+    → (p : CUnit) → IsWellFormed p → SameUnit p u → IsTextOf u bytes
+needed_read_at lexed covers u bytes e p h same =
+    text_moves p u bytes same (needed_read lexed covers p bytes (e ∙ ap (λ ms. (put_marks empty ms).bytes) (sym (unit_moves Needed p u same))) h)
 
 -- what follows of a text that was written
 pub on_text : {V E : Type 0} {P Q : V → Type 0} (r : Result V E) → IfOk r P → ((x : V) → P x → Q x) → IfOk r Q

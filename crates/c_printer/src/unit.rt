@@ -1,7 +1,9 @@
 // The text of a unit.
 
 ghost use Rattle.std.specs.Prelude.{◌≡◌, IfOk, true};
+ghost use Rattle.c_tree.specs.declared.unit.Unit.{Unit as CUnit};
 ghost use Rattle.c_tree.specs.Answers.{IsWellFormed};
+ghost use Rattle.c_tree.specs.Bare.{SameUnit};
 ghost use Rattle.c_printer.specs.Depth.{IsShallowText};
 ghost use Rattle.c_printer.specs.Marks.{put_marks};
 ghost use Rattle.c_printer.specs.Printed.{IsTextOf};
@@ -37,10 +39,10 @@ fn can_be_read(alloc: Global, text: &[u8]) -> Result<bool, Memory>
     }
 }
 
-/// The text of a unit, one statement a line. It is read as the unit, apart from places. Brackets that the grammar does not need
-/// are left out where the text would nest too deep with them.
+/// The text of a unit, one statement a line. Where the unit is well formed, apart from places, it is read as the unit, apart from places.
+/// Brackets that the grammar does not need are left out where the text would nest too deep with them.
 pub fn print(alloc: Global, unit: &Unit) -> Result<Vec<u8>, Memory>
-    ensures { IfOk result (λ text. IsWellFormed unit.now → IsTextOf unit.now text.items) }
+    ensures { IfOk result (λ text. (placed : CUnit) → IsWellFormed placed → SameUnit placed unit.now → IsTextOf unit.now text.items) }
 {
     tokens_are_read();
     tokens_cover();
