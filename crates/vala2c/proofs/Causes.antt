@@ -1,11 +1,12 @@
 -- What the status of a call tells of the words, the counts and the message line.
-use Rattle.std.proofs.Common.{◌≡◌, ◌≢◌, ℕ, ◌+◌, ◌-◌, ◌^◌, ◌≤◌, ◌<◌, min, List, [], ◌∷◌, ◌++◌, length, Option, Some, None, Result, Ok, Err, refl, sym, ap, append-nil, pos, ◌∙◌, subst, inl, inr, ◌⊎◌, arith}
+use Rattle.std.proofs.Common.{◌≡◌, ◌≢◌, ℕ, ◌+◌, ◌-◌, ◌^◌, ◌≤◌, ◌<◌, min, Bool, true, false, List, [], ◌∷◌, ◌++◌, length, Option, Some, None, Result, Ok, Err, refl, sym, ap, append_assoc, pos, ◌∙◌, subst, inl, inr, ◌⊎◌, arith}
 use Rattle.vg_base.specs.declared.outside.FolderFault.{FolderFault}
 use Rattle.vg_base.specs.declared.outside.FolderFault.TheVariants as fault
 use Rattle.vg_base.specs.declared.outside.Call.{Call}
 use Rattle.vg_base.specs.declared.outside.Call.TheVariants.{Read, Write}
 use Rattle.vg_base.specs.declared.event.CEnd.{CEnd}
 use Rattle.vg_base.specs.declared.event.CEnd.TheVariants as c
+use Rattle.vg_base.specs.declared.event.UndefKind.{UndefKind}
 use Rattle.vg_base.specs.declared.event.UndefKind.TheVariants as u
 use Rattle.vg_base.specs.Outside.{FolderView, SinkView, IsRead, IsWrite, Takes, Rose}
 use Rattle.vg_base.specs.Run.{Begins}
@@ -13,16 +14,19 @@ use Rattle.vg_base.specs.World.{World}
 use Rattle.vg_base.proofs.OutsideLaws.{takes_none, takes_both}
 use Rattle.vg_base.proofs.RunLaws.{begins_refl}
 use Rattle.c_tree.specs.declared.unit.Unit.{Unit as CUnit}
+use Rattle.static_rules.specs.declared.rules.Refusal.{Refusal}
+use Rattle.command_line.specs.declared.choice.Command.{Command}
+use Rattle.command_line.specs.declared.choice.Command.TheVariants as command
+use Rattle.command_line.specs.Names.{c_file}
+use Rattle.command_line.specs.Meaning.{Meaning, writes}
 use Rattle.vala2c.specs.declared.status.Kind.{Kind}
 use Rattle.vala2c.specs.declared.status.Kind.TheVariants as kind
 use Rattle.vala2c.specs.declared.status.Status.{Status}
-use Rattle.vala2c.specs.Words.{IsRun, IsCheck, NamesFiles, c_file, world_of}
-use Rattle.vala2c.specs.Status.{line_of, kind_of_end, unheard}
-use Rattle.vala2c.specs.Course.{Chain, TakesAll, TakesFront, Ran, AllRead, FrontRead, ReadUpTo, IsBuilt, IsPlanned, Goes, Closes, Finishes, IsCall, prints_out, prints_err}
+use Rattle.vala2c.specs.Status.{line_of, kind_of_end, kind_of_undefined, unheard}
+use Rattle.vala2c.specs.Course.{Chain, TakesAll, TakesFront, Ran, AllRead, AllGiven, IsBuilt, IsPlanned, IsRefusal, HasC, Goes, GoesBy, Outcome, Speaks, Closes, Finishes, IsCall, prints_out, prints_err, files_read, written, read_back, world_of, says, says_run}
 use Rattle.vala2c.specs.Course as course
-use Rattle.vala2c.specs.Causes.{IsOutside, IsFileOf, SpeaksOf, Says, SaysBehind, TakesLine, AreOfRun, IsOfRun, IsOfCheck, Causes, last_of}
-use Rattle.vala2c.proofs.Reading.{one_command, is_file, entries, entries_behind, entries_same, last_behind, IsFine, last_read}
-use Rattle.vala2c.proofs.Rules.{named_by}
+use Rattle.vala2c.specs.Causes.{AreOf, RunC, IsCOf, SpeaksOf, Says, SaysBehind, IsOfRun, IsOfCheck, IsOfEmit, IsOfExec, Causes, last_of}
+use Rattle.vala2c.proofs.Reading.{one_asked, none_asked, run_checks, run_emits, run_executes, check_emits, check_executes, emit_executes, check_writes, exec_writes, is_file, given_read, given_whole, entries, entries_behind, entries_same, last_behind, IsFine, last_read}
 
 -- 1. Counts
 
@@ -39,77 +43,132 @@ rose_before a b x le r = rose_under (2 ^ 64 - 1) a b x le r
 pub rose_behind : (a x y : ℕ) → Rose a x → x ≤ y → Rose a y
 rose_behind a x y r le = rose_over (2 ^ 64 - 1) a x y r le
 
--- 2. The message line
+-- 2. What is said on err
 
 unheard_same : (k : Kind) (named source : List ℕ) (n : ℕ) → n < length (line_of k named source) → unheard k ≡ k
 unheard_same (kind.Ended code) named source n h = absurd (omega arith)
 unheard_same k named source n h = refl
 
--- The status is the answer, and its line was put unless a put was refused; or memory ran out.
-abbrev pub Told : Kind → List ℕ → List ℕ → SinkView → SinkView → Kind → Type 0
-Told answer named source e e' k = ((k ≡ answer) × TakesLine (line_of answer named source) e e') ⊎ (k ≡ kind.Memory)
+-- a status that is another than a refused put is no other for it
+pub unheard_is : (a l : Kind) → unheard a ≡ l → l ≢ kind.OutFault → a ≡ l
+unheard_is (kind.Ended code) l e not = absurd (not (sym e))
+unheard_is kind.Usage l e not = e
+unheard_is kind.NoFile l e not = e
+unheard_is kind.ReadFault l e not = e
+unheard_is kind.WriteFault l e not = e
+unheard_is kind.OutFault l e not = e
+unheard_is (kind.Refused r) l e not = e
+unheard_is (kind.CRefused r) l e not = e
+unheard_is kind.StepsSpent l e not = e
+unheard_is kind.Waiting l e not = e
+unheard_is (kind.Trapped t) l e not = e
+unheard_is kind.Dead l e not = e
+unheard_is (kind.Undefined d) l e not = e
+unheard_is kind.Memory l e not = e
 
-closed : (spoken : Kind) (named source line : List ℕ) (e e' : SinkView) (k : Kind) → line ≡ line_of spoken named source → Closes line spoken e e' k → Told spoken named source e e' k
-closed spoken named source line e e' k is (course.put t) = inl (refl, inl (subst (λ l. Takes e l e') is t.0))
-closed spoken named source line e e' k is (course.refused n lt t rose) =
-    inl (unheard_same spoken named source n (subst (λ l. n < length l) is lt), inr rose)
-closed spoken named source line e e' k is (course.memory n lt t) = inr refl
+-- WHAT IS TOLD of what a call comes to: all of it was put on err, or nothing since a print there was refused; or a put was refused; or
+-- memory ran out. The last index is the status.
+pub data Told (x : Outcome) (e e' : SinkView) : Kind → Type 0 where
+  line : x.muted ≡ false → Takes e (x.texts ++ line_of x.kind x.named x.source) e' → Told x e e' x.kind
+  mute : x.muted ≡ true → Told x e e' x.kind
+  rose : (n : ℕ) → n < length (x.texts ++ line_of x.kind x.named x.source) → Rose e.faults e'.faults → Told x e e' (unheard x.kind)
+  no_memory : Told x e e' kind.Memory
 
-spoken_is : (spoken answer : Kind) (named source : List ℕ) (e e' : SinkView) (k : Kind) → (spoken ≡ answer) ⊎ (spoken ≡ kind.Memory) → Told spoken named source e e' k → Told answer named source e e' k
-spoken_is spoken answer named source e e' k (inl is) t = subst (λ a. Told a named source e e' k) is t
-spoken_is spoken answer named source e e' k (inr is) (inl t) = inr (t.0 ∙ is)
-spoken_is spoken answer named source e e' k (inr is) (inr t) = inr t
+told_by : (x : Outcome) (text : List ℕ) (spoken : Kind) (e e' : SinkView) (k : Kind) → Speaks x text spoken → Closes text spoken e e' k → Told x e e' k
+told_by x _ _ e e' _ (course.answer m) (course.put t) = line m t.0
+told_by x _ _ e e' _ (course.answer m) (course.refused n lt t r) = rose n lt r
+told_by x _ _ e e' _ (course.answer m) (course.memory n lt t) = no_memory
+told_by x _ _ e e' _ (course.no_memory named source m) (course.put t) = no_memory
+told_by x _ _ e e' _ (course.no_memory named source m) (course.refused n lt t r) = no_memory
+told_by x _ _ e e' _ (course.no_memory named source m) (course.memory n lt t) = no_memory
+told_by x _ _ e e' _ (course.nothing m) (course.put t) = mute m
+told_by x _ _ e e' _ (course.nothing m) (course.refused n lt t r) = absurd (omega (arith, lt))
+told_by x _ _ e e' _ (course.nothing m) (course.memory n lt t) = no_memory
 
-pub told : (answer : Kind) (named source : List ℕ) (e e' : SinkView) (status : Status) → Finishes answer named source e e' status → Told answer named source e e' status.kind
-told answer named source e e' status h =
-    spoken_is h.spoken answer named source e e' status.kind h.is_spoken (closed h.spoken named source _ e e' status.kind refl h.closes)
+pub told : (x : Outcome) (e e' : SinkView) (status : Status) → Finishes x e e' status → Told x e e' status.kind
+told x e e' status h = told_by x h.line h.spoken e e' status.kind h.speaks h.closes
 
-closed_faults : (line : List ℕ) (spoken : Kind) (e e' : SinkView) (k : Kind) → Closes line spoken e e' k → e.faults ≤ e'.faults
-closed_faults line spoken e e' k (course.put t) = t.1
-closed_faults line spoken e e' k (course.refused n lt t rose) = t.1
-closed_faults line spoken e e' k (course.memory n lt t) = t.1
+closed_faults : (text : List ℕ) (spoken : Kind) (e e' : SinkView) (k : Kind) → Closes text spoken e e' k → e.faults ≤ e'.faults
+closed_faults text spoken e e' k (course.put t) = t.1
+closed_faults text spoken e e' k (course.refused n lt t r) = t.1
+closed_faults text spoken e e' k (course.memory n lt t) = t.1
 
-pub finish_faults : (answer : Kind) (named source : List ℕ) (e e' : SinkView) (status : Status) → Finishes answer named source e e' status → e.faults ≤ e'.faults
-finish_faults answer named source e e' status h = closed_faults _ h.spoken e e' status.kind h.closes
+pub finish_faults : (x : Outcome) (e e' : SinkView) (status : Status) → Finishes x e e' status → e.faults ≤ e'.faults
+finish_faults x e e' status h = closed_faults h.line h.spoken e e' status.kind h.closes
 
--- the answer of a call whose status is another than want of memory
-pub answered : (answer : Kind) (named source : List ℕ) (e e' : SinkView) (k l : Kind) → Told answer named source e e' k → k ≡ l → l ≢ kind.Memory → answer ≡ l
-answered answer named source e e' k l (inl t) is not = sym t.0 ∙ is
-answered answer named source e e' k l (inr m) is not = absurd (not (sym is ∙ m))
+-- what a call comes to whose status is neither want of memory nor a refused put
+pub answered : (x : Outcome) (e e' : SinkView) (k l : Kind) → Told x e e' k → k ≡ l → l ≢ kind.Memory → l ≢ kind.OutFault → x.kind ≡ l
+answered x e e' _ l (line m t) is not un = is
+answered x e e' _ l (mute m) is not un = is
+answered x e e' _ l (rose n lt r) is not un = unheard_is x.kind l is un
+answered x e e' _ l no_memory is not un = absurd (not (sym is))
 
--- what an answer is stands in the status, unless memory ran out
-pub in_status : (answer : Kind) (named source : List ℕ) (e e' : SinkView) (k l : Kind) → Told answer named source e e' k → (answer ≡ l) ⊎ (answer ≡ kind.Memory) → (k ≡ l) ⊎ (k ≡ kind.Memory)
-in_status answer named source e e' k l (inl t) (inl is) = inl (t.0 ∙ is)
-in_status answer named source e e' k l (inl t) (inr is) = inr (t.0 ∙ is)
-in_status answer named source e e' k l (inr m) is = inr m
+-- where no text is told, what the call comes to stands in the status, unless memory ran out
+pub plain_status : (x : Outcome) (e e' : SinkView) (k : Kind) → Told x e e' k → x.texts ≡ [] → (k ≡ x.kind) ⊎ (k ≡ kind.Memory)
+plain_status x e e' _ (line m t) is = inl refl
+plain_status x e e' _ (mute m) is = inl refl
+plain_status x e e' _ (rose n lt r) is = inl (unheard_same x.kind x.named x.source n (subst (λ t. n < length (t ++ line_of x.kind x.named x.source)) is lt))
+plain_status x e e' _ no_memory is = inr refl
+
+pub in_status : (x : Outcome) (e e' : SinkView) (k l : Kind) → Told x e e' k → x.texts ≡ [] → (x.kind ≡ l) ⊎ (x.kind ≡ kind.Memory) → (k ≡ l) ⊎ (k ≡ kind.Memory)
+in_status x e e' k l t none h = both (plain_status x e e' k t none) h
+  where
+    both : (k ≡ x.kind) ⊎ (k ≡ kind.Memory) → (x.kind ≡ l) ⊎ (x.kind ≡ kind.Memory) → (k ≡ l) ⊎ (k ≡ kind.Memory)
+    both (inl a) (inl b) = inl (a ∙ b)
+    both (inl a) (inr b) = inr (a ∙ b)
+    both (inr a) b = inr a
 
 -- 3. The run of a unit
 
 abbrev pub SpeaksOfNothing : Kind → Type 0
-SpeaksOfNothing k = (words : List (List ℕ)) (named source : List ℕ) → SpeaksOf words k named source
+SpeaksOfNothing k = (asked : Option Meaning) (named source : List ℕ) → SpeaksOf asked k named source
 
-end_speaks : (end : CEnd) → SpeaksOfNothing (kind_of_end end)
-end_speaks (c.Ended code) = λ words named source. tt
-end_speaks (c.Aborted k) = λ words named source. tt
-end_speaks c.Waiting = λ words named source. tt
-end_speaks (c.Undefined u.Freed) = λ words named source. tt
-end_speaks (c.Undefined k) = λ words named source. tt
+-- the status of an end of a run: what it speaks of, that it is one of a run, and that it is no fault
+pub record IsEndStatus (k : Kind) : Type 0 where
+  pub speaks : SpeaksOfNothing k
+  pub of_run : IsOfRun k
+  pub no_fault : k ≢ kind.OutFault
 
-end_of_run : (end : CEnd) → IsOfRun (kind_of_end end)
-end_of_run (c.Ended code) = tt
-end_of_run (c.Aborted k) = tt
-end_of_run c.Waiting = tt
-end_of_run (c.Undefined u.Freed) = tt
-end_of_run (c.Undefined k) = tt
+undefined_status : (c : Command) (d : UndefKind) → IsEndStatus (kind_of_undefined c d)
+undefined_status command.Exec u.Freed = record { speaks = λ asked named source. tt; of_run = tt; no_fault = λ h. cc }
+undefined_status command.Run u.Freed = record { speaks = λ asked named source. tt; of_run = tt; no_fault = λ h. cc }
+undefined_status command.Emit u.Freed = record { speaks = λ asked named source. tt; of_run = tt; no_fault = λ h. cc }
+undefined_status command.Check u.Freed = record { speaks = λ asked named source. tt; of_run = tt; no_fault = λ h. cc }
+undefined_status command.Exec u.Null = record { speaks = λ asked named source. tt; of_run = tt; no_fault = λ h. cc }
+undefined_status command.Run u.Null = record { speaks = λ asked named source. tt; of_run = tt; no_fault = λ h. cc }
+undefined_status command.Emit u.Null = record { speaks = λ asked named source. tt; of_run = tt; no_fault = λ h. cc }
+undefined_status command.Check u.Null = record { speaks = λ asked named source. tt; of_run = tt; no_fault = λ h. cc }
+undefined_status command.Exec u.Outside = record { speaks = λ asked named source. tt; of_run = tt; no_fault = λ h. cc }
+undefined_status command.Run u.Outside = record { speaks = λ asked named source. tt; of_run = tt; no_fault = λ h. cc }
+undefined_status command.Emit u.Outside = record { speaks = λ asked named source. tt; of_run = tt; no_fault = λ h. cc }
+undefined_status command.Check u.Outside = record { speaks = λ asked named source. tt; of_run = tt; no_fault = λ h. cc }
+undefined_status command.Exec u.Unset = record { speaks = λ asked named source. tt; of_run = tt; no_fault = λ h. cc }
+undefined_status command.Run u.Unset = record { speaks = λ asked named source. tt; of_run = tt; no_fault = λ h. cc }
+undefined_status command.Emit u.Unset = record { speaks = λ asked named source. tt; of_run = tt; no_fault = λ h. cc }
+undefined_status command.Check u.Unset = record { speaks = λ asked named source. tt; of_run = tt; no_fault = λ h. cc }
+undefined_status command.Exec u.Kind = record { speaks = λ asked named source. tt; of_run = tt; no_fault = λ h. cc }
+undefined_status command.Run u.Kind = record { speaks = λ asked named source. tt; of_run = tt; no_fault = λ h. cc }
+undefined_status command.Emit u.Kind = record { speaks = λ asked named source. tt; of_run = tt; no_fault = λ h. cc }
+undefined_status command.Check u.Kind = record { speaks = λ asked named source. tt; of_run = tt; no_fault = λ h. cc }
+undefined_status command.Exec u.Func = record { speaks = λ asked named source. tt; of_run = tt; no_fault = λ h. cc }
+undefined_status command.Run u.Func = record { speaks = λ asked named source. tt; of_run = tt; no_fault = λ h. cc }
+undefined_status command.Emit u.Func = record { speaks = λ asked named source. tt; of_run = tt; no_fault = λ h. cc }
+undefined_status command.Check u.Func = record { speaks = λ asked named source. tt; of_run = tt; no_fault = λ h. cc }
+undefined_status command.Exec u.Divide = record { speaks = λ asked named source. tt; of_run = tt; no_fault = λ h. cc }
+undefined_status command.Run u.Divide = record { speaks = λ asked named source. tt; of_run = tt; no_fault = λ h. cc }
+undefined_status command.Emit u.Divide = record { speaks = λ asked named source. tt; of_run = tt; no_fault = λ h. cc }
+undefined_status command.Check u.Divide = record { speaks = λ asked named source. tt; of_run = tt; no_fault = λ h. cc }
+undefined_status command.Exec u.Overflow = record { speaks = λ asked named source. tt; of_run = tt; no_fault = λ h. cc }
+undefined_status command.Run u.Overflow = record { speaks = λ asked named source. tt; of_run = tt; no_fault = λ h. cc }
+undefined_status command.Emit u.Overflow = record { speaks = λ asked named source. tt; of_run = tt; no_fault = λ h. cc }
+undefined_status command.Check u.Overflow = record { speaks = λ asked named source. tt; of_run = tt; no_fault = λ h. cc }
 
-end_no_fault : (end : CEnd) → kind_of_end end ≢ kind.OutFault
-end_no_fault (c.Ended code) h = cc
-end_no_fault (c.Aborted k) h = cc
-end_no_fault c.Waiting h = cc
-end_no_fault (c.Undefined u.Freed) h = cc
-end_no_fault (c.Undefined k) h = cc
+end_status : (command : Command) (end : CEnd) → IsEndStatus (kind_of_end command end)
+end_status command (c.Ended code) = record { speaks = λ asked named source. tt; of_run = tt; no_fault = λ h. cc }
+end_status command (c.Aborted k) = record { speaks = λ asked named source. tt; of_run = tt; no_fault = λ h. cc }
+end_status command c.Waiting = record { speaks = λ asked named source. tt; of_run = tt; no_fault = λ h. cc }
+end_status command (c.Undefined d) = undefined_status command d
 
--- no tactic may read what a run prints: it would count the steps
 spent_no_fault : kind.StepsSpent ≢ kind.OutFault
 spent_no_fault h = cc
 
@@ -117,104 +176,118 @@ memory_no_fault : kind.Memory ≢ kind.OutFault
 memory_no_fault h = cc
 
 -- what a run says of its status and its sinks, whichever way it went
-pub record RanSo (unit : CUnit) (w : World) (o o' e e' : SinkView) (k : Kind) : Type 0 where
+pub record RanSo (m : Meaning) (unit : CUnit) (w : World) (o o' e e' : SinkView) (k : Kind) (muted : Bool) : Type 0 where
   pub speaks : SpeaksOfNothing k
   pub is_of_run : IsOfRun k ⊎ (k ≡ kind.Memory)
   pub fault : k ≡ kind.OutFault → Rose o.faults o'.faults ⊎ Rose e.faults e'.faults
-  pub out : TakesFront (prints_out unit w) o o'
-  pub err : TakesFront (prints_err unit w) e e'
+  pub on_err : muted ≡ true → Rose e.faults e'.faults
+  pub out : TakesFront (prints_out unit w m.steps) o o'
+  pub err : TakesFront (prints_err unit w m.steps) e e'
 
 all_front : (bytes : List ℕ) (s s' : SinkView) → TakesAll bytes s s' → TakesFront bytes s s'
 all_front bytes s s' t = (bytes, begins_refl bytes, t.0, t.1)
 
-pub ran_so : (unit : CUnit) (w : World) (o o' e e' : SinkView) (k : Kind) → Ran unit w o o' e e' k → RanSo unit w o o' e e' k
-ran_so unit w o o' e e' k (course.ended end is out err) =
-    record { speaks = end_speaks end; is_of_run = inl (end_of_run end); fault = λ h. absurd (end_no_fault end h); out = all_front _ o o' out; err = all_front _ e e' err }
-ran_so unit w o o' e e' k (course.spent is out err) =
-    record { speaks = λ words named source. tt; is_of_run = inl tt; fault = λ h. absurd (spent_no_fault h); out = all_front _ o o' out; err = all_front _ e e' err }
-ran_so unit w o o' e e' k (course.refused out err rose) =
-    record { speaks = λ words named source. tt; is_of_run = inl tt; fault = λ h. rose; out = out; err = err }
-ran_so unit w o o' e e' k (course.memory out err) =
-    record { speaks = λ words named source. tt; is_of_run = inr refl; fault = λ h. absurd (memory_no_fault h); out = out; err = err }
+pub ran_so : (m : Meaning) (unit : CUnit) (w : World) (o o' e e' : SinkView) (k : Kind) (texts : List ℕ) (muted : Bool) → Ran m unit w o o' e e' k texts muted → RanSo m unit w o o' e e' k muted
+ran_so m unit w o o' e e' k texts muted (course.ended end is out err) =
+    let s = end_status m.command end in
+    record { speaks = s.speaks; is_of_run = inl s.of_run; fault = λ h. absurd (s.no_fault h); on_err = λ h. cc; out = all_front _ o o' out; err = all_front _ e e' err }
+ran_so m unit w o o' e e' k texts muted (course.spent is out err) =
+    record { speaks = λ asked named source. tt; is_of_run = inl tt; fault = λ h. absurd (spent_no_fault h); on_err = λ h. cc; out = all_front _ o o' out; err = all_front _ e e' err }
+ran_so m unit w o o' e e' k texts muted (course.refused out err r) =
+    record { speaks = λ asked named source. tt; is_of_run = inl tt; fault = λ h. inl r; on_err = λ h. cc; out = out; err = err }
+ran_so m unit w o o' e e' k texts muted (course.refused_on_err out err r) =
+    record { speaks = λ asked named source. tt; is_of_run = inl tt; fault = λ h. inr r; on_err = λ h. r; out = out; err = err }
+ran_so m unit w o o' e e' k texts muted (course.memory out err) =
+    record { speaks = λ asked named source. tt; is_of_run = inr refl; fault = λ h. absurd (memory_no_fault h); on_err = λ h. cc; out = out; err = err }
 
 pub nothing_begins : (front bytes : List ℕ) → bytes ≡ [] → Begins front bytes → front ≡ []
 nothing_begins [] bytes is b = refl
 nothing_begins (x ∷ front) bytes is b = let e : x ∷ (front ++ b.0) ≡ [] = b.1 ∙ is in cc
 
+-- C runs by `run` and `exec` alone
+pub c_of : (asked : Option Meaning) (m : Meaning) (calls : List Call) (input file bytes : List ℕ) (limit : ℕ) → asked ≡ Some m → HasC m calls input file bytes limit → RunC asked
+c_of asked m _ input _ bytes _ is (course.back reads _ c _ run built) = inl (m, is, run)
+c_of asked m calls input file bytes _ is (course.given _ _ _ _ exec one all) = inr (m, is, exec)
+
+-- the file of the C
+pub file_of_c : (asked : Option Meaning) (m : Meaning) (calls : List Call) (input file bytes : List ℕ) (limit : ℕ) → asked ≡ Some m → HasC m calls input file bytes limit → IsCOf asked file
+file_of_c asked m _ input _ bytes _ is (course.back reads _ c _ run built) = inl (m, is, built.writes, refl)
+file_of_c asked m calls input file bytes _ is (course.given _ _ _ _ exec one all) = inr (m, is, exec, one)
+
 -- 4. How a call goes: its sinks before the message line
 
-pub record SinksSo (words : List (List ℕ)) (o o' e e' : SinkView) (k : Kind) : Type 0 where
+pub record SinksSo (asked : Option Meaning) (o o' e e' : SinkView) (x : Outcome) : Type 0 where
   pub out_faults : o.faults ≤ o'.faults
   pub err_faults : e.faults ≤ e'.faults
   pub took : (bytes : List ℕ) × Takes e bytes e'
-  pub nothing : (AreOfRun words → IsOfRun k → ⊥) → k ≢ kind.Memory → Takes e [] e'
-  pub fault : k ≡ kind.OutFault → Rose o.faults o'.faults ⊎ Rose e.faults e'.faults
-  pub silent : (IsOfRun k → ⊥) → k ≢ kind.Memory → o' ≡ o
+  pub nothing : (RunC asked → IsOfRun x.kind → ⊥) → x.kind ≢ kind.Memory → Takes e [] e' × (x.texts ≡ [])
+  pub fault : x.kind ≡ kind.OutFault → Rose o.faults o'.faults ⊎ Rose e.faults e'.faults
+  pub on_err : x.muted ≡ true → Rose e.faults e'.faults
+  pub silent : (IsOfRun x.kind → ⊥) → x.kind ≢ kind.Memory → o' ≡ o
 
-untouched : (words : List (List ℕ)) (o e : SinkView) (k : Kind) → k ≢ kind.OutFault → SinksSo words o o e e k
-untouched words o e k not =
-    record { out_faults = omega arith; err_faults = omega arith; took = ([], takes_none e e refl); nothing = λ a b. takes_none e e refl; fault = λ h. absurd (not h); silent = λ a b. refl }
+untouched : (asked : Option Meaning) (o e : SinkView) (x : Outcome) → x.kind ≢ kind.OutFault → x.texts ≡ [] → x.muted ≡ false → SinksSo asked o o e e x
+untouched asked o e x not none m =
+    record { out_faults = omega arith; err_faults = omega arith; took = ([], takes_none e e refl); nothing = λ a b. (takes_none e e refl, none); fault = λ h. absurd (not h); on_err = λ h. cc; silent = λ a b. refl }
 
 not_silent : {A : Type 0} (k : Kind) → IsOfRun k ⊎ (k ≡ kind.Memory) → (IsOfRun k → ⊥) → k ≢ kind.Memory → A
 not_silent k (inl h) a b = absurd (a h)
 not_silent k (inr h) a b = absurd (b h)
 
-ran_sinks : (words : List (List ℕ)) (unit : CUnit) (w : World) (o o' e e' : SinkView) (k : Kind) → AreOfRun words → RanSo unit w o o' e e' k → SinksSo words o o' e e' k
-ran_sinks words unit w o o' e e' k of r =
-    record { out_faults = r.out.3; err_faults = r.err.3; took = (r.err.0, r.err.2); nothing = λ a b. not_silent k r.is_of_run (a of) b; fault = r.fault; silent = λ a b. not_silent k r.is_of_run a b }
+ran_sinks : (asked : Option Meaning) (m : Meaning) (unit : CUnit) (w : World) (o o' e e' : SinkView) (k : Kind) (texts : List ℕ) (muted : Bool) (file : List ℕ) → RunC asked → RanSo m unit w o o' e e' k muted
+    → SinksSo asked o o' e e' (says_run k texts muted file)
+ran_sinks asked m unit w o o' e e' k texts muted file of r =
+    record { out_faults = r.out.3; err_faults = r.err.3; took = (r.err.0, r.err.2); nothing = λ a b. not_silent k r.is_of_run (a of) b; fault = r.fault; on_err = r.on_err; silent = λ a b. not_silent k r.is_of_run a b }
 
 accepted_no_fault : kind.Ended (pos 0) ≢ kind.OutFault
 accepted_no_fault h = cc
 
-pub goes_sinks : (words : List (List ℕ)) (o e : SinkView) (calls : List Call) (o' e' : SinkView) (k : Kind) (named source : List ℕ) → Goes words o e calls o' e' k named source → SinksSo words o o' e e' k
-goes_sinks words o e calls o' e' k named source (course.usage n s none) = untouched words o e kind.Usage (λ h. cc)
-goes_sinks words o e calls o' e' k named source (course.no_file fs f rs is up) = untouched words o e kind.NoFile (λ h. cc)
-goes_sinks words o e calls o' e' k named source (course.unread fs f rs is up) = untouched words o e kind.ReadFault (λ h. cc)
-goes_sinks words o e calls o' e' k named source (course.refused fs ss rs r all b) = untouched words o e (kind.Refused r) (λ h. cc)
-goes_sinks words o e calls o' e' k named source (course.accepted fs ss rs n s is all h) = untouched words o e (kind.Ended (pos 0)) accepted_no_fault
-goes_sinks words o e calls o' e' k named source (course.unwritten fs rs c h) = untouched words o e kind.WriteFault (λ h. cc)
-goes_sinks words o e calls o' e' k named source (course.gone fs rs c h) = untouched words o e kind.NoFile (λ h. cc)
-goes_sinks words o e calls o' e' k named source (course.unread_back fs rs c h) = untouched words o e kind.ReadFault (λ h. cc)
-goes_sinks words o e calls o' e' k named source (course.c_refused fs rs c b r h a) = untouched words o e (kind.CRefused r) (λ h. cc)
-goes_sinks words o e calls o' e' k named source (course.ran fs rs c b unit p q l n t h a r) = ran_sinks words unit (world_of fs) o o' e e' k (fs, h.is_run) (ran_so unit (world_of fs) o o' e e' k r)
-goes_sinks words o e calls o' e' k named source (course.memory cs n s p) = untouched words o e kind.Memory memory_no_fault
+pub goes_sinks : (asked : Option Meaning) (m : Meaning) (o e : SinkView) (calls : List Call) (o' e' : SinkView) (x : Outcome) → asked ≡ Some m → Goes m o e calls o' e' x → SinksSo asked o o' e e' x
+goes_sinks asked m o e calls o' e' _ is (course.no_file f rs up) = untouched asked o e _ (λ h. cc) refl refl
+goes_sinks asked m o e calls o' e' _ is (course.unread f rs up) = untouched asked o e _ (λ h. cc) refl refl
+goes_sinks asked m o e calls o' e' _ is (course.refused ss i rs r all b) = untouched asked o e _ (λ h. cc) refl refl
+goes_sinks asked m o e calls o' e' _ is (course.accepted ss i rs c all h) = untouched asked o e _ accepted_no_fault refl refl
+goes_sinks asked m o e calls o' e' _ is (course.unwritten i rs c h) = untouched asked o e _ (λ h. cc) refl refl
+goes_sinks asked m o e calls o' e' _ is (course.emitted i rs c em h) = untouched asked o e _ accepted_no_fault refl refl
+goes_sinks asked m o e calls o' e' _ is (course.gone i rs c ru h) = untouched asked o e _ (λ h. cc) refl refl
+goes_sinks asked m o e calls o' e' _ is (course.unread_back i rs c ru h) = untouched asked o e _ (λ h. cc) refl refl
+goes_sinks asked m o e calls o' e' _ is (course.c_refused cs i f b l r h a) = untouched asked o e _ (λ h. cc) refl refl
+goes_sinks asked m o e calls o' e' _ is (course.ran cs i f b l unit p q k texts muted h a r) =
+    ran_sinks asked m unit (world_of m i) o o' e e' k texts muted f (c_of asked m calls i f b l is h) (ran_so m unit (world_of m i) o o' e e' k texts muted r)
+goes_sinks asked m o e calls o' e' _ is (course.memory cs p) = untouched asked o e _ memory_no_fault refl refl
 
 -- 5. What the message line speaks of
 
-named_file : (words files : List (List ℕ)) (file : List ℕ) (reads : List Call) → NamesFiles words files → ReadUpTo files file reads → IsFileOf words file
-named_file words files file reads is up = is_file words files up.front file up.behind is up.files_are
-
-pub goes_speaks : (words : List (List ℕ)) (o e : SinkView) (calls : List Call) (o' e' : SinkView) (k : Kind) (named source : List ℕ) → Goes words o e calls o' e' k named source → SpeaksOf words k named source
-goes_speaks words o e calls o' e' k named source (course.usage n s none) = tt
-goes_speaks words o e calls o' e' k named source (course.no_file fs f rs is up) = inl (named_file words fs f rs is up)
-goes_speaks words o e calls o' e' k named source (course.unread fs f rs is up) = inl (named_file words fs f rs is up)
-goes_speaks words o e calls o' e' k named source (course.refused fs ss rs r all b) = (fs, ss, b, refl, refl)
-goes_speaks words o e calls o' e' k named source (course.accepted fs ss rs n s is all h) = tt
-goes_speaks words o e calls o' e' k named source (course.unwritten fs rs c h) = (fs, h.is_run, refl)
-goes_speaks words o e calls o' e' k named source (course.gone fs rs c h) = inr (fs, h.is_run, refl)
-goes_speaks words o e calls o' e' k named source (course.unread_back fs rs c h) = inr (fs, h.is_run, refl)
-goes_speaks words o e calls o' e' k named source (course.c_refused fs rs c b r h a) = (fs, h.is_run, refl)
-goes_speaks words o e calls o' e' k named source (course.ran fs rs c b unit p q l n t h a r) = (ran_so unit (world_of fs) o o' e e' k r).speaks words named source
-goes_speaks words o e calls o' e' k named source (course.memory cs n s p) = tt
+pub goes_speaks : (asked : Option Meaning) (m : Meaning) (o e : SinkView) (calls : List Call) (o' e' : SinkView) (x : Outcome) → asked ≡ Some m → Goes m o e calls o' e' x → SpeaksOf asked x.kind x.named x.source
+goes_speaks asked m o e calls o' e' _ is (course.no_file f rs up) = inl (is_file asked m up.front f up.behind is up.files_are)
+goes_speaks asked m o e calls o' e' _ is (course.unread f rs up) = inl (is_file asked m up.front f up.behind is up.files_are)
+goes_speaks asked m o e calls o' e' _ is (course.refused ss i rs r all b) = (m, ss, is, b, refl, refl)
+goes_speaks asked m o e calls o' e' _ is (course.accepted ss i rs c all h) = tt
+goes_speaks asked m o e calls o' e' _ is (course.unwritten i rs c h) = (m, is, h.writes, refl)
+goes_speaks asked m o e calls o' e' _ is (course.emitted i rs c em h) = tt
+goes_speaks asked m o e calls o' e' _ is (course.gone i rs c ru h) = inr (m, is, h.writes, refl)
+goes_speaks asked m o e calls o' e' _ is (course.unread_back i rs c ru h) = inr (m, is, h.writes, refl)
+goes_speaks asked m o e calls o' e' _ is (course.c_refused cs i f b l r h a) = file_of_c asked m calls i f b l is h
+goes_speaks asked m o e calls o' e' _ is (course.ran cs i f b l unit p q k texts muted h a r) = (ran_so m unit (world_of m i) o o' e e' k texts muted r).speaks asked f []
+goes_speaks asked m o e calls o' e' _ is (course.memory cs p) = tt
 
 -- 6. Its calls
 
--- all files are a front of them
-pub whole : (files sources : List (List ℕ)) (reads : List Call) → AllRead files sources reads → FrontRead files reads
-whole files sources reads all = record { front = files; behind = []; files_are = sym (append-nil files); sources = sources; all_read = all }
+pub c_planned : (m : Meaning) (calls : List Call) (input file bytes : List ℕ) (limit : ℕ) → HasC m calls input file bytes limit → IsPlanned m calls
+c_planned m _ input _ bytes _ (course.back reads _ c _ run built) = course.back input reads c (Ok bytes) run built
+c_planned m calls input file bytes _ (course.given _ _ _ _ exec one all) = course.reads calls (given_whole m (bytes ∷ []) input calls all)
 
-pub goes_planned : (words : List (List ℕ)) (o e : SinkView) (calls : List Call) (o' e' : SinkView) (k : Kind) (named source : List ℕ) → Goes words o e calls o' e' k named source → IsPlanned words calls
-goes_planned words o e calls o' e' k named source (course.usage n s none) = course.none
-goes_planned words o e calls o' e' k named source (course.no_file fs f rs is up) = course.unread fs f rs fault.Missing is up
-goes_planned words o e calls o' e' k named source (course.unread fs f rs is up) = course.unread fs f rs fault.Failed is up
-goes_planned words o e calls o' e' k named source (course.refused fs ss rs r all b) = course.reads fs rs (named_by words fs ss r b) (whole fs ss rs all)
-goes_planned words o e calls o' e' k named source (course.accepted fs ss rs n s is all h) = course.reads fs rs (inr is) (whole fs ss rs all)
-goes_planned words o e calls o' e' k named source (course.unwritten fs rs c h) = course.written fs rs c (Err fault.Failed) h
-goes_planned words o e calls o' e' k named source (course.gone fs rs c h) = course.back fs rs c (Err fault.Missing) h
-goes_planned words o e calls o' e' k named source (course.unread_back fs rs c h) = course.back fs rs c (Err fault.Failed) h
-goes_planned words o e calls o' e' k named source (course.c_refused fs rs c b r h a) = course.back fs rs c (Ok b) h
-goes_planned words o e calls o' e' k named source (course.ran fs rs c b unit p q l n t h a r) = course.back fs rs c (Ok b) h
-goes_planned words o e calls o' e' k named source (course.memory cs n s p) = p
+pub goes_planned : (m : Meaning) (o e : SinkView) (calls : List Call) (o' e' : SinkView) (x : Outcome) → Goes m o e calls o' e' x → IsPlanned m calls
+goes_planned m o e calls o' e' _ (course.no_file f rs up) = course.unread f rs fault.Missing up
+goes_planned m o e calls o' e' _ (course.unread f rs up) = course.unread f rs fault.Failed up
+goes_planned m o e calls o' e' _ (course.refused ss i rs r all b) = course.reads rs (given_whole m ss i rs all)
+goes_planned m o e calls o' e' _ (course.accepted ss i rs c all h) = course.reads rs (given_whole m ss i rs all)
+goes_planned m o e calls o' e' _ (course.unwritten i rs c h) = course.wrote i rs c (Err fault.Failed) h
+goes_planned m o e calls o' e' _ (course.emitted i rs c em h) = course.wrote i rs c (Ok tt) h
+goes_planned m o e calls o' e' _ (course.gone i rs c ru h) = course.back i rs c (Err fault.Missing) ru h
+goes_planned m o e calls o' e' _ (course.unread_back i rs c ru h) = course.back i rs c (Err fault.Failed) ru h
+goes_planned m o e calls o' e' _ (course.c_refused cs i f b l r h a) = c_planned m calls i f b l h
+goes_planned m o e calls o' e' _ (course.ran cs i f b l unit p q k texts muted h a r) = c_planned m calls i f b l h
+goes_planned m o e calls o' e' _ (course.memory cs p) = p
 
 -- the last call, and the last that leaves an entry
 abbrev pub LastIs : List Call → Call → Type 0
@@ -303,11 +376,19 @@ last_after files sources reads more x xs all e = ap last_of (entries_behind file
 fine_reads : (files sources : List (List ℕ)) (reads : List Call) → AllRead files sources reads → IsFine (last_of (entries reads))
 fine_reads files sources reads all = subst (λ l. IsFine (last_of l)) (sym (entries_same files sources reads all)) (last_read None files sources reads tt all)
 
-fine_back : (words files : List (List ℕ)) (reads : List Call) (c bytes : List ℕ) → IsBuilt words files reads c → IsFine (last_of (entries (reads ++ Write (c_file files) c (Ok tt) ∷ Read (c_file files) (Ok bytes) ∷ [])))
-fine_back words files reads c bytes h =
-    let w = Write (c_file files) c (Ok tt) in
-    let r = Read (c_file files) (Ok bytes) in
-    subst IsFine (sym (last_after files h.sources reads (w ∷ r ∷ []) w (r ∷ []) h.all_read refl)) tt
+fine_back : (m : Meaning) (input : List ℕ) (reads : List Call) (c bytes : List ℕ) → IsBuilt m input reads c → IsFine (last_of (entries (read_back m reads c (Ok bytes))))
+fine_back m input reads c bytes h =
+    let all = given_read m h.sources input reads h.all_given in
+    let w = Write (c_file m.name) c (Ok tt) in
+    let r = Read (c_file m.name) (Ok bytes) in
+    subst IsFine (sym (last_after (files_read m) all.0 reads (w ∷ r ∷ []) w (r ∷ []) all.1 refl)) tt
+
+fine_given : (m : Meaning) (sources : List (List ℕ)) (input : List ℕ) (reads : List Call) → AllGiven m sources input reads → IsFine (last_of (entries reads))
+fine_given m sources input reads all = let r = given_read m sources input reads all in fine_reads (files_read m) r.0 reads r.1
+
+fine_c : (m : Meaning) (calls : List Call) (input file bytes : List ℕ) (limit : ℕ) → HasC m calls input file bytes limit → IsFine (last_of (entries calls))
+fine_c m _ input _ bytes _ (course.back reads _ c _ run built) = fine_back m input reads c bytes built
+fine_c m calls input file bytes _ (course.given _ _ _ _ exec one all) = fine_given m (bytes ∷ []) input calls all
 
 one_last : (files sources : List (List ℕ)) (reads : List Call) (x : Call) → AllRead files sources reads → entries (x ∷ []) ≡ x ∷ [] → LastIs (reads ++ x ∷ []) x
 one_last files sources reads x all e = (last_behind None reads x [], last_after files sources reads (x ∷ []) x [] all e)
@@ -315,75 +396,211 @@ one_last files sources reads x all e = (last_behind None reads x [], last_after 
 two_last : (files sources : List (List ℕ)) (reads : List Call) (y x : Call) → AllRead files sources reads → entries (y ∷ x ∷ []) ≡ y ∷ x ∷ [] → LastIs (reads ++ y ∷ x ∷ []) x
 two_last files sources reads y x all e = (last_behind None reads y (x ∷ []), last_after files sources reads (y ∷ x ∷ []) y (x ∷ []) all e)
 
-pub goes_faults : (words : List (List ℕ)) (o e : SinkView) (calls : List Call) (o' e' : SinkView) (k : Kind) (named source : List ℕ) → Goes words o e calls o' e' k named source → FaultsSo calls k named
-goes_faults words o e calls o' e' k named source (course.usage n s none) = last_fine [] named kind.Usage tt (λ h. cc) (λ h. cc) (λ h. cc)
-goes_faults words o e calls o' e' k named source (course.no_file fs f rs is up) = last_missing _ f (one_last up.front up.sources rs (Read f (Err fault.Missing)) up.all_read refl)
-goes_faults words o e calls o' e' k named source (course.unread fs f rs is up) = last_unread _ f (one_last up.front up.sources rs (Read f (Err fault.Failed)) up.all_read refl)
-goes_faults words o e calls o' e' k named source (course.refused fs ss rs r all b) = last_fine rs named (kind.Refused r) (fine_reads fs ss rs all) (λ h. cc) (λ h. cc) (λ h. cc)
-goes_faults words o e calls o' e' k named source (course.accepted fs ss rs n s is all h) = last_fine rs named (kind.Ended (pos 0)) (fine_reads fs ss rs all) (λ h. cc) (λ h. cc) (λ h. cc)
-goes_faults words o e calls o' e' k named source (course.unwritten fs rs c h) = last_unwritten _ (c_file fs) c (one_last fs h.sources rs (Write (c_file fs) c (Err fault.Failed)) h.all_read refl)
-goes_faults words o e calls o' e' k named source (course.gone fs rs c h) = last_missing _ (c_file fs) (two_last fs h.sources rs (Write (c_file fs) c (Ok tt)) (Read (c_file fs) (Err fault.Missing)) h.all_read refl)
-goes_faults words o e calls o' e' k named source (course.unread_back fs rs c h) = last_unread _ (c_file fs) (two_last fs h.sources rs (Write (c_file fs) c (Ok tt)) (Read (c_file fs) (Err fault.Failed)) h.all_read refl)
-goes_faults words o e calls o' e' k named source (course.c_refused fs rs c b r h a) = last_fine _ named (kind.CRefused r) (fine_back words fs rs c b h) (λ h. cc) (λ h. cc) (λ h. cc)
-goes_faults words o e calls o' e' k named source (course.ran fs rs c b unit p q l n t h a r) =
-    let of = (ran_so unit (world_of fs) o o' e e' k r).is_of_run in
-    last_fine _ named k (fine_back words fs rs c b h) (not_of_run k kind.NoFile of (λ x. x) (λ h. cc)) (not_of_run k kind.ReadFault of (λ x. x) (λ h. cc)) (not_of_run k kind.WriteFault of (λ x. x) (λ h. cc))
-goes_faults words o e calls o' e' k named source (course.memory cs n s p) = without_memory cs named
+-- the C was written last, and that was answered Ok
+written_last : (m : Meaning) (input : List ℕ) (reads : List Call) (c : List ℕ) → IsBuilt m input reads c → last_of (entries (written m reads c (Ok tt))) ≡ Some (Write (c_file m.name) c (Ok tt))
+written_last m input reads c h =
+    let all = given_read m h.sources input reads h.all_given in
+    last_after (files_read m) all.0 reads (Write (c_file m.name) c (Ok tt) ∷ []) (Write (c_file m.name) c (Ok tt)) [] all.1 refl
+
+last_written : (calls : List Call) (named : List ℕ) (k : Kind) (name bytes : List ℕ) → last_of (entries calls) ≡ Some (Write name bytes (Ok tt)) → k ≢ kind.NoFile → k ≢ kind.ReadFault → k ≢ kind.WriteFault → FaultsSo calls k named
+last_written calls named k name bytes l a b c =
+    record {
+      no_file = λ h. absurd (a h);
+      read_fault = λ h. absurd (b h);
+      write_fault = λ h. absurd (c h);
+      if_missing = λ other e. absurd (no_read name bytes other fault.Missing (sym l ∙ e));
+      if_unread = λ other e. absurd (no_read name bytes other fault.Failed (sym l ∙ e));
+      if_unwritten = λ other more e. absurd (no_fault name bytes other more (sym l ∙ e));
+    }
+  where
+    no_read : (name bytes other : List ℕ) (x : FolderFault) → Some (Write name bytes (Ok tt)) ≡ Some (Read other (Err x)) → ⊥
+    no_read name bytes other x e = cc
+
+    no_fault : (name bytes other more : List ℕ) → Some (Write name bytes (Ok tt)) ≡ Some (Write other more (Err fault.Failed)) → ⊥
+    no_fault name bytes other more e = cc
+
+pub goes_faults : (m : Meaning) (o e : SinkView) (calls : List Call) (o' e' : SinkView) (x : Outcome) → Goes m o e calls o' e' x → FaultsSo calls x.kind x.named
+goes_faults m o e calls o' e' _ (course.no_file f rs up) = last_missing _ f (one_last up.front up.sources rs (Read f (Err fault.Missing)) up.all_read refl)
+goes_faults m o e calls o' e' _ (course.unread f rs up) = last_unread _ f (one_last up.front up.sources rs (Read f (Err fault.Failed)) up.all_read refl)
+goes_faults m o e calls o' e' _ (course.refused ss i rs r all b) = last_fine rs _ (kind.Refused r) (fine_given m ss i rs all) (λ h. cc) (λ h. cc) (λ h. cc)
+goes_faults m o e calls o' e' _ (course.accepted ss i rs c all h) = last_fine rs _ (kind.Ended (pos 0)) (fine_given m ss i rs all) (λ h. cc) (λ h. cc) (λ h. cc)
+goes_faults m o e calls o' e' _ (course.unwritten i rs c h) =
+    let all = given_read m h.sources i rs h.all_given in
+    last_unwritten _ (c_file m.name) c (one_last (files_read m) all.0 rs (Write (c_file m.name) c (Err fault.Failed)) all.1 refl)
+goes_faults m o e calls o' e' _ (course.emitted i rs c em h) = last_written _ _ (kind.Ended (pos 0)) (c_file m.name) c (written_last m i rs c h) (λ h. cc) (λ h. cc) (λ h. cc)
+goes_faults m o e calls o' e' _ (course.gone i rs c ru h) =
+    let all = given_read m h.sources i rs h.all_given in
+    last_missing _ (c_file m.name) (two_last (files_read m) all.0 rs (Write (c_file m.name) c (Ok tt)) (Read (c_file m.name) (Err fault.Missing)) all.1 refl)
+goes_faults m o e calls o' e' _ (course.unread_back i rs c ru h) =
+    let all = given_read m h.sources i rs h.all_given in
+    last_unread _ (c_file m.name) (two_last (files_read m) all.0 rs (Write (c_file m.name) c (Ok tt)) (Read (c_file m.name) (Err fault.Failed)) all.1 refl)
+goes_faults m o e calls o' e' _ (course.c_refused cs i f b l r h a) = last_fine calls _ (kind.CRefused r) (fine_c m calls i f b l h) (λ h. cc) (λ h. cc) (λ h. cc)
+goes_faults m o e calls o' e' _ (course.ran cs i f b l unit p q k texts muted h a r) =
+    let of = (ran_so m unit (world_of m i) o o' e e' k texts muted r).is_of_run in
+    last_fine calls _ k (fine_c m calls i f b l h) (not_of_run k kind.NoFile of (λ x. x) (λ h. cc)) (not_of_run k kind.ReadFault of (λ x. x) (λ h. cc)) (not_of_run k kind.WriteFault of (λ x. x) (λ h. cc))
+goes_faults m o e calls o' e' _ (course.memory cs p) = without_memory cs []
 
 not_usage : (k : Kind) → IsOfRun k ⊎ (k ≡ kind.Memory) → k ≢ kind.Usage
 not_usage k r = not_of_run k kind.Usage r (λ x. x) (λ h. cc)
 
--- a call of words that name files
-pub record WordsSo (words : List (List ℕ)) (o o' : SinkView) (calls : List Call) (k : Kind) : Type 0 where
-  pub usage : k ≡ kind.Usage → IsOutside words × (calls ≡ [])
-  pub outside : IsOutside words → ((k ≡ kind.Usage) ⊎ (k ≡ kind.Memory)) × (calls ≡ [])
-  pub checked : (files : List (List ℕ)) → IsCheck words files → IsOfCheck k × (o' ≡ o)
+-- the command that the words are of
+pub command_is : (asked : Option Meaning) (m : Meaning) (c : Command) → asked ≡ Some m → AreOf asked c → m.command ≡ c
+command_is asked m c is of = ap (λ x. x.command) (one_asked asked m of.0 is of.1) ∙ of.2
 
--- the words name files, and nothing runs
-named_so : (words files : List (List ℕ)) (o : SinkView) (calls : List Call) (k : Kind) → NamesFiles words files → k ≢ kind.Usage → IsOfCheck k → WordsSo words o o calls k
-named_so words files o calls k is not of = record { usage = λ h. absurd (not h); outside = λ h. absurd (h files is); checked = λ fs c. (of, refl) }
+-- what a call on words comes to
+pub record WordsSo (asked : Option Meaning) (o o' : SinkView) (calls : List Call) (x : Outcome) : Type 0 where
+  pub usage : x.kind ≡ kind.Usage → (asked ≡ None) × (calls ≡ [])
+  pub outside : asked ≡ None → ((x.kind ≡ kind.Usage) ⊎ (x.kind ≡ kind.Memory)) × (calls ≡ [])
+  pub checked : AreOf asked command.Check → IsOfCheck x.kind × (o' ≡ o)
+  pub emitted : AreOf asked command.Emit → IsOfEmit x.kind × (o' ≡ o)
+  pub executed : AreOf asked command.Exec → IsOfExec x.kind
+  pub plain : (RunC asked → ⊥) → x.texts ≡ []
 
--- or they are those of a run
-run_so : (words files : List (List ℕ)) (o o' : SinkView) (calls : List Call) (k : Kind) → IsRun words files → k ≢ kind.Usage → WordsSo words o o' calls k
-run_so words files o o' calls k is not = record { usage = λ h. absurd (not h); outside = λ h. absurd (h files (inl is)); checked = λ fs c. one_command words files fs is c }
+-- what can come of any command
+any_so : (asked : Option Meaning) (m : Meaning) (o : SinkView) (calls : List Call) (x : Outcome) → asked ≡ Some m → x.kind ≢ kind.Usage → IsOfCheck x.kind → IsOfEmit x.kind → IsOfExec x.kind → x.texts ≡ [] → WordsSo asked o o calls x
+any_so asked m o calls x is not check emit exec none =
+    record { usage = λ h. absurd (not h); outside = λ h. none_asked asked m h is; checked = λ of. (check, refl); emitted = λ of. (emit, refl); executed = λ of. exec; plain = λ h. none }
 
-planned_outside : (words : List (List ℕ)) (calls : List Call) → IsOutside words → IsPlanned words calls → calls ≡ []
-planned_outside words calls h course.none = refl
-planned_outside words calls h (course.reads fs rs is up) = absurd (h fs is)
-planned_outside words calls h (course.unread fs f rs x is up) = absurd (h fs is)
-planned_outside words calls h (course.written fs rs c a b) = absurd (h fs (inl b.is_run))
-planned_outside words calls h (course.back fs rs c a b) = absurd (h fs (inl b.is_run))
+-- what comes of a check alone
+check_so : (asked : Option Meaning) (m : Meaning) (o : SinkView) (calls : List Call) (x : Outcome) → asked ≡ Some m → m.command ≡ command.Check → x.kind ≢ kind.Usage → IsOfCheck x.kind → x.texts ≡ [] → WordsSo asked o o calls x
+check_so asked m o calls x is c not check none =
+    record {
+      usage = λ h. absurd (not h);
+      outside = λ h. none_asked asked m h is;
+      checked = λ of. (check, refl);
+      emitted = λ of. check_emits m.command c (command_is asked m command.Emit is of);
+      executed = λ of. check_executes m.command c (command_is asked m command.Exec is of);
+      plain = λ h. none;
+    }
 
-pub goes_words : (words : List (List ℕ)) (o e : SinkView) (calls : List Call) (o' e' : SinkView) (k : Kind) (named source : List ℕ) → Goes words o e calls o' e' k named source → WordsSo words o o' calls k
-goes_words words o e calls o' e' k named source (course.usage n s none) = record { usage = λ h. (none, refl); outside = λ h. (inl refl, refl); checked = λ fs c. absurd (none fs (inr c)) }
-goes_words words o e calls o' e' k named source (course.no_file fs f rs is up) = named_so words fs o calls kind.NoFile is (λ h. cc) tt
-goes_words words o e calls o' e' k named source (course.unread fs f rs is up) = named_so words fs o calls kind.ReadFault is (λ h. cc) tt
-goes_words words o e calls o' e' k named source (course.refused fs ss rs r all b) = named_so words fs o calls (kind.Refused r) (named_by words fs ss r b) (λ h. cc) tt
-goes_words words o e calls o' e' k named source (course.accepted fs ss rs n s is all h) = named_so words fs o calls (kind.Ended (pos 0)) (inr is) (λ h. cc) refl
-goes_words words o e calls o' e' k named source (course.unwritten fs rs c h) = run_so words fs o o calls kind.WriteFault h.is_run (λ h. cc)
-goes_words words o e calls o' e' k named source (course.gone fs rs c h) = run_so words fs o o calls kind.NoFile h.is_run (λ h. cc)
-goes_words words o e calls o' e' k named source (course.unread_back fs rs c h) = run_so words fs o o calls kind.ReadFault h.is_run (λ h. cc)
-goes_words words o e calls o' e' k named source (course.c_refused fs rs c b r h a) = run_so words fs o o calls (kind.CRefused r) h.is_run (λ h. cc)
-goes_words words o e calls o' e' k named source (course.ran fs rs c b unit p q l n t h a r) = run_so words fs o o' calls k h.is_run (not_usage k (ran_so unit (world_of fs) o o' e e' k r).is_of_run)
-goes_words words o e calls o' e' k named source (course.memory cs n s p) = record { usage = λ h. cc; outside = λ h. (inr refl, planned_outside words calls h p); checked = λ fs c. (tt, refl) }
+-- what comes of a command that writes, before C runs
+write_so : (asked : Option Meaning) (m : Meaning) (o : SinkView) (calls : List Call) (x : Outcome) → asked ≡ Some m → writes m.command ≡ true → x.kind ≢ kind.Usage → IsOfEmit x.kind → x.texts ≡ [] → WordsSo asked o o calls x
+write_so asked m o calls x is w not emit none =
+    record {
+      usage = λ h. absurd (not h);
+      outside = λ h. none_asked asked m h is;
+      checked = λ of. check_writes m.command (command_is asked m command.Check is of) w;
+      emitted = λ of. (emit, refl);
+      executed = λ of. exec_writes m.command (command_is asked m command.Exec is of) w;
+      plain = λ h. none;
+    }
+
+-- what comes of commands that run C
+c_so : (asked : Option Meaning) (m : Meaning) (o o' : SinkView) (calls : List Call) (x : Outcome) → asked ≡ Some m → RunC asked → x.kind ≢ kind.Usage → IsOfExec x.kind → WordsSo asked o o' calls x
+c_so asked m o o' calls x is (inl run) not exec =
+    record {
+      usage = λ h. absurd (not h);
+      outside = λ h. none_asked asked m h is;
+      checked = λ of. run_checks m.command (command_is asked m command.Run is run) (command_is asked m command.Check is of);
+      emitted = λ of. run_emits m.command (command_is asked m command.Run is run) (command_is asked m command.Emit is of);
+      executed = λ of. exec;
+      plain = λ h. absurd (h (inl run));
+    }
+c_so asked m o o' calls x is (inr run) not exec =
+    record {
+      usage = λ h. absurd (not h);
+      outside = λ h. none_asked asked m h is;
+      checked = λ of. check_executes m.command (command_is asked m command.Check is of) (command_is asked m command.Exec is run);
+      emitted = λ of. emit_executes m.command (command_is asked m command.Emit is of) (command_is asked m command.Exec is run);
+      executed = λ of. exec;
+      plain = λ h. absurd (h (inr run));
+    }
+
+-- what comes of `run` alone
+back_so : (asked : Option Meaning) (m : Meaning) (o : SinkView) (calls : List Call) (x : Outcome) → asked ≡ Some m → m.command ≡ command.Run → x.kind ≢ kind.Usage → x.texts ≡ [] → WordsSo asked o o calls x
+back_so asked m o calls x is c not none =
+    record {
+      usage = λ h. absurd (not h);
+      outside = λ h. none_asked asked m h is;
+      checked = λ of. run_checks m.command c (command_is asked m command.Check is of);
+      emitted = λ of. run_emits m.command c (command_is asked m command.Emit is of);
+      executed = λ of. run_executes m.command c (command_is asked m command.Exec is of);
+      plain = λ h. none;
+    }
+
+refused_so : (asked : Option Meaning) (m : Meaning) (o : SinkView) (calls : List Call) (x : Outcome) (sources : List (List ℕ)) (r : Refusal) → asked ≡ Some m → IsRefusal m sources r → x.kind ≢ kind.Usage → IsOfCheck x.kind → IsOfEmit x.kind
+    → x.texts ≡ [] → WordsSo asked o o calls x
+refused_so asked m o calls x sources r is (course.compiled rest w b) not check emit none = write_so asked m o calls x is w not emit none
+refused_so asked m o calls x sources r is (course.checked c h) not check emit none = check_so asked m o calls x is c not check none
+
+exec_of_run : (k : Kind) → IsOfRun k ⊎ (k ≡ kind.Memory) → IsOfExec k
+exec_of_run k (inr is) = subst IsOfExec (sym is) tt
+exec_of_run (kind.Ended code) (inl h) = tt
+exec_of_run kind.Usage (inl h) = absurd h
+exec_of_run kind.NoFile (inl h) = tt
+exec_of_run kind.ReadFault (inl h) = tt
+exec_of_run kind.WriteFault (inl h) = absurd h
+exec_of_run kind.OutFault (inl h) = tt
+exec_of_run (kind.Refused r) (inl h) = absurd h
+exec_of_run (kind.CRefused r) (inl h) = tt
+exec_of_run kind.StepsSpent (inl h) = tt
+exec_of_run kind.Waiting (inl h) = tt
+exec_of_run (kind.Trapped t) (inl h) = tt
+exec_of_run kind.Dead (inl h) = tt
+exec_of_run (kind.Undefined d) (inl h) = tt
+exec_of_run kind.Memory (inl h) = tt
+
+pub goes_words : (asked : Option Meaning) (m : Meaning) (o e : SinkView) (calls : List Call) (o' e' : SinkView) (x : Outcome) → asked ≡ Some m → Goes m o e calls o' e' x → WordsSo asked o o' calls x
+goes_words asked m o e calls o' e' _ is (course.no_file f rs up) = any_so asked m o calls _ is (λ h. cc) tt tt tt refl
+goes_words asked m o e calls o' e' _ is (course.unread f rs up) = any_so asked m o calls _ is (λ h. cc) tt tt tt refl
+goes_words asked m o e calls o' e' _ is (course.refused ss i rs r all b) = refused_so asked m o calls _ ss r is b (λ h. cc) tt tt refl
+goes_words asked m o e calls o' e' _ is (course.accepted ss i rs c all h) = check_so asked m o calls _ is c (λ h. cc) refl refl
+goes_words asked m o e calls o' e' _ is (course.unwritten i rs c h) = write_so asked m o calls _ is h.writes (λ h. cc) tt refl
+goes_words asked m o e calls o' e' _ is (course.emitted i rs c em h) = write_so asked m o calls _ is h.writes (λ h. cc) refl refl
+goes_words asked m o e calls o' e' _ is (course.gone i rs c ru h) = back_so asked m o calls _ is ru (λ h. cc) refl
+goes_words asked m o e calls o' e' _ is (course.unread_back i rs c ru h) = back_so asked m o calls _ is ru (λ h. cc) refl
+goes_words asked m o e calls o' e' _ is (course.c_refused cs i f b l r h a) = c_so asked m o o calls _ is (c_of asked m calls i f b l is h) (λ h. cc) tt
+goes_words asked m o e calls o' e' _ is (course.ran cs i f b l unit p q k texts muted h a r) =
+    let of = (ran_so m unit (world_of m i) o o' e e' k texts muted r).is_of_run in
+    c_so asked m o o' calls _ is (c_of asked m calls i f b l is h) (not_usage k of) (exec_of_run k of)
+goes_words asked m o e calls o' e' _ is (course.memory cs p) = any_so asked m o calls _ is (λ h. cc) tt tt tt refl
 
 -- all of this of a call on any words
-pub record CallSo (words : List (List ℕ)) (o e : SinkView) (calls : List Call) (o' e' : SinkView) (k : Kind) (named source : List ℕ) : Type 0 where
-  pub sinks : SinksSo words o o' e e' k
-  pub speaks : SpeaksOf words k named source
-  pub faults : FaultsSo calls k named
-  pub planned : IsPlanned words calls
-  pub on_words : WordsSo words o o' calls k
+pub record CallSo (asked : Option Meaning) (o e : SinkView) (calls : List Call) (o' e' : SinkView) (x : Outcome) : Type 0 where
+  pub sinks : SinksSo asked o o' e e' x
+  pub speaks : SpeaksOf asked x.kind x.named x.source
+  pub faults : FaultsSo calls x.kind x.named
+  pub planned : (m : Meaning) → asked ≡ Some m → IsPlanned m calls
+  pub on_words : WordsSo asked o o' calls x
 
-pub call_so : (words : List (List ℕ)) (o e : SinkView) (calls : List Call) (o' e' : SinkView) (k : Kind) (named source : List ℕ) → Goes words o e calls o' e' k named source → CallSo words o e calls o' e' k named source
-call_so words o e calls o' e' k named source goes =
+no_calls : (m : Meaning) → IsPlanned m []
+no_calls m = course.reads [] (record { front = []; behind = files_read m; files_are = refl; sources = []; all_read = course.none })
+
+-- a call that touches nothing
+nothing_so : (asked : Option Meaning) (o e : SinkView) (x : Outcome) → x.kind ≢ kind.OutFault → x.texts ≡ [] → x.muted ≡ false → SpeaksOf asked x.kind x.named x.source → FaultsSo [] x.kind x.named → WordsSo asked o o [] x
+    → CallSo asked o e [] o e x
+nothing_so asked o e x not none m speaks faults on_words =
+    record { sinks = untouched asked o e x not none m; speaks = speaks; faults = faults; planned = λ m is. no_calls m; on_words = on_words }
+
+pub call_so : (asked : Option Meaning) (o e : SinkView) (calls : List Call) (o' e' : SinkView) (x : Outcome) → GoesBy o e asked calls o' e' x → CallSo asked o e calls o' e' x
+call_so _ o e _ _ _ _ course.usage =
+    nothing_so None o e _ (λ h. cc) refl refl tt (last_fine [] [] kind.Usage tt (λ h. cc) (λ h. cc) (λ h. cc))
+    (record {
+      usage = λ h. (refl, refl);
+      outside = λ h. (inl refl, refl);
+      checked = λ of. none_asked None of.0 refl of.1;
+      emitted = λ of. none_asked None of.0 refl of.1;
+      executed = λ of. none_asked None of.0 refl of.1;
+      plain = λ h. refl;
+    })
+call_so _ o e calls o' e' x (course.asked m _ _ _ _ goes) =
     record {
-      sinks = goes_sinks words o e calls o' e' k named source goes;
-      speaks = goes_speaks words o e calls o' e' k named source goes;
-      faults = goes_faults words o e calls o' e' k named source goes;
-      planned = goes_planned words o e calls o' e' k named source goes;
-      on_words = goes_words words o e calls o' e' k named source goes;
+      sinks = goes_sinks (Some m) m o e calls o' e' x refl goes;
+      speaks = goes_speaks (Some m) m o e calls o' e' x refl goes;
+      faults = goes_faults m o e calls o' e' x goes;
+      planned = λ n is. subst (λ n. IsPlanned n calls) (one_asked (Some m) m n refl is) (goes_planned m o e calls o' e' x goes);
+      on_words = goes_words (Some m) m o e calls o' e' x refl goes;
     }
+call_so asked o e _ _ _ _ (course.no_memory _) =
+    nothing_so asked o e _ memory_no_fault refl refl tt (without_memory [] [])
+    (record {
+      usage = λ h. cc;
+      outside = λ h. (inr refl, refl);
+      checked = λ of. (tt, refl);
+      emitted = λ of. (tt, refl);
+      executed = λ of. tt;
+      plain = λ h. refl;
+    })
 
 -- 7. The counts of the folder
 
@@ -442,13 +659,6 @@ chain_raises f calls g last (course.write _ mid _ name bytes answer (c ∷ cs) h
 
 -- 8. The clause
 
-pub said_so : (words : List (List ℕ)) (answer : Kind) (named source : List ℕ) (e mid e' : SinkView) (k : Kind) → SpeaksOf words answer named source → e.faults ≤ mid.faults → Takes e [] mid → Told answer named source mid e' k → Says words k e e' ⊎ (Rose e.faults e'.faults ⊎ (k ≡ kind.Memory))
-said_so words answer named source e mid e' k speaks le nothing (inl (is, inl put)) =
-    let s : Says words answer e e' = (named, source, speaks, takes_both e mid e' [] (line_of answer named source) nothing put) in
-    inl (subst (λ a. Says words a e e') (sym is) s)
-said_so words answer named source e mid e' k speaks le nothing (inl (is, inr rose)) = inr (inl (rose_before e.faults mid.faults e'.faults le rose))
-said_so words answer named source e mid e' k speaks le nothing (inr is) = inr (inr is)
-
 -- want of memory, or another answer
 memory_or : (k : Kind) → (k ≡ kind.Memory) ⊎ (k ≢ kind.Memory)
 memory_or (kind.Ended code) = inr (λ h. cc)
@@ -467,66 +677,124 @@ memory_or (kind.Undefined d) = inr (λ h. cc)
 memory_or kind.Memory = inl refl
 
 -- where no C was run, the line stands alone
-said_alone : (words : List (List ℕ)) (answer : Kind) (named source : List ℕ) (o o' e mid e' : SinkView) (k : Kind) → SpeaksOf words answer named source → SinksSo words o o' e mid answer → Told answer named source mid e' k
-    → (AreOfRun words → IsOfRun k → ⊥) → (answer ≡ kind.Memory) ⊎ (answer ≢ kind.Memory) → Says words k e e' ⊎ (Rose e.faults e'.faults ⊎ (k ≡ kind.Memory))
-said_alone words answer named source o o' e mid e' k speaks s (inl t) none (inl m) = inr (inr (t.0 ∙ m))
-said_alone words answer named source o o' e mid e' k speaks s (inl t) none (inr not) =
-    said_so words answer named source e mid e' k speaks s.err_faults (s.nothing (λ of r. none of (subst IsOfRun (sym t.0) r)) not) (inl t)
-said_alone words answer named source o o' e mid e' k speaks s (inr m) none other = inr (inr m)
+said_alone : (asked : Option Meaning) (x : Outcome) (o o' e mid e' : SinkView) (k : Kind) → SpeaksOf asked x.kind x.named x.source → SinksSo asked o o' e mid x → mid.faults ≤ e'.faults → Told x mid e' k → (RunC asked → IsOfRun k → ⊥)
+    → (x.kind ≡ kind.Memory) ⊎ (x.kind ≢ kind.Memory) → Says asked k e e' ⊎ (Rose e.faults e'.faults ⊎ (k ≡ kind.Memory))
+said_alone asked x o o' e mid e' _ speaks s le (line m t) none (inl is) = inr (inr is)
+said_alone asked x o o' e mid e' _ speaks s le (line m t) none (inr not) =
+    let n = s.nothing none not in
+    let put : Takes mid (line_of x.kind x.named x.source) e' = subst (λ ts. Takes mid (ts ++ line_of x.kind x.named x.source) e') n.1 t in
+    inl (x.named, x.source, speaks, takes_both e mid e' [] (line_of x.kind x.named x.source) n.0 put)
+said_alone asked x o o' e mid e' _ speaks s le (mute m) none other = inr (inl (rose_behind e.faults mid.faults e'.faults (s.on_err m) le))
+said_alone asked x o o' e mid e' _ speaks s le (rose n lt r) none other = inr (inl (rose_before e.faults mid.faults e'.faults s.err_faults r))
+said_alone asked x o o' e mid e' _ speaks s le no_memory none other = inr (inr refl)
 
-said_behind : (words : List (List ℕ)) (answer : Kind) (named source front : List ℕ) (e mid e' : SinkView) (k : Kind) → SpeaksOf words answer named source → e.faults ≤ mid.faults → Takes e front mid → Told answer named source mid e' k
-    → SaysBehind words k e e' ⊎ (Rose e.faults e'.faults ⊎ (k ≡ kind.Memory))
-said_behind words answer named source front e mid e' k speaks le took (inl (is, inl put)) =
-    let s : SaysBehind words answer e e' = (front, named, source, speaks, takes_both e mid e' front (line_of answer named source) took put) in
-    inl (subst (λ a. SaysBehind words a e e') (sym is) s)
-said_behind words answer named source front e mid e' k speaks le took (inl (is, inr rose)) = inr (inl (rose_before e.faults mid.faults e'.faults le rose))
-said_behind words answer named source front e mid e' k speaks le took (inr is) = inr (inr is)
+said_behind : (asked : Option Meaning) (x : Outcome) (o o' e mid e' : SinkView) (k : Kind) → SpeaksOf asked x.kind x.named x.source → SinksSo asked o o' e mid x → mid.faults ≤ e'.faults → Told x mid e' k
+    → SaysBehind asked k e e' ⊎ (Rose e.faults e'.faults ⊎ (k ≡ kind.Memory))
+said_behind asked x o o' e mid e' _ speaks s le (line m t) =
+    let text = line_of x.kind x.named x.source in
+    let all : Takes e (s.took.0 ++ (x.texts ++ text)) e' = takes_both e mid e' s.took.0 (x.texts ++ text) s.took.1 t in
+    inl (s.took.0 ++ x.texts, x.named, x.source, speaks, subst (λ l. Takes e l e') (sym (append_assoc s.took.0 x.texts text)) all)
+said_behind asked x o o' e mid e' _ speaks s le (mute m) = inr (inl (rose_behind e.faults mid.faults e'.faults (s.on_err m) le))
+said_behind asked x o o' e mid e' _ speaks s le (rose n lt r) = inr (inl (rose_before e.faults mid.faults e'.faults s.err_faults r))
+said_behind asked x o o' e mid e' _ speaks s le no_memory = inr (inr refl)
 
--- an error of a sink is one of out, or of err before or in the message line
+-- an error of a sink is one of out, or of err before or in what is said there
 out_or_err : (o o' e mid e' : SinkView) → mid.faults ≤ e'.faults → Rose o.faults o'.faults ⊎ Rose e.faults mid.faults → Rose o.faults o'.faults ⊎ Rose e.faults e'.faults
 out_or_err o o' e mid e' le (inl r) = inl r
 out_or_err o o' e mid e' le (inr r) = inr (rose_behind e.faults mid.faults e'.faults r le)
 
-silent_so : (words : List (List ℕ)) (answer : Kind) (named source : List ℕ) (o o' e mid e' : SinkView) (k : Kind) → SinksSo words o o' e mid answer → Told answer named source mid e' k → (IsOfRun k → ⊥) → k ≢ kind.Memory → o' ≡ o
-silent_so words answer named source o o' e mid e' k s (inl t) a b = s.silent (λ r. a (subst IsOfRun (sym t.0) r)) (λ m. b (t.0 ∙ m))
-silent_so words answer named source o o' e mid e' k s (inr m) a b = absurd (b m)
+fault_so : (asked : Option Meaning) (x : Outcome) (o o' e mid e' : SinkView) (k : Kind) → SinksSo asked o o' e mid x → mid.faults ≤ e'.faults → Told x mid e' k → k ≡ kind.OutFault → Rose o.faults o'.faults ⊎ Rose e.faults e'.faults
+fault_so asked x o o' e mid e' _ s le (line m t) is = out_or_err o o' e mid e' le (s.fault is)
+fault_so asked x o o' e mid e' _ s le (mute m) is = out_or_err o o' e mid e' le (s.fault is)
+fault_so asked x o o' e mid e' _ s le (rose n lt r) is = inr (rose_before e.faults mid.faults e'.faults s.err_faults r)
+fault_so asked x o o' e mid e' _ s le no_memory is = absurd (memory_no_fault is)
 
--- the message line of an answer that is neither want of memory nor one of a run
-pub line_so : (words : List (List ℕ)) (answer : Kind) (named source : List ℕ) (o o' e mid e' : SinkView) (k l : Kind) → SinksSo words o o' e mid answer → Told answer named source mid e' k → k ≡ l → l ≢ kind.Memory → (IsOfRun l → ⊥)
-    → TakesLine (line_of l named source) e e'
-line_so words answer named source o o' e mid e' k l s (inl (is, inl put)) e2 not none =
-    let same : answer ≡ l = sym is ∙ e2 in
-    let nothing : Takes e [] mid = s.nothing (λ of r. none (subst IsOfRun same r)) (λ m. not (sym same ∙ m)) in
-    inl (subst (λ a. Takes e (line_of a named source) e') same (takes_both e mid e' [] (line_of answer named source) nothing put))
-line_so words answer named source o o' e mid e' k l s (inl (is, inr rose)) e2 not none = inr (rose_before e.faults mid.faults e'.faults s.err_faults rose)
-line_so words answer named source o o' e mid e' k l s (inr m) e2 not none = absurd (not (sym e2 ∙ m))
+run_unheard : (k : Kind) → IsOfRun k → IsOfRun (unheard k)
+run_unheard (kind.Ended code) h = tt
+run_unheard kind.Usage h = h
+run_unheard kind.NoFile h = h
+run_unheard kind.ReadFault h = h
+run_unheard kind.WriteFault h = h
+run_unheard kind.OutFault h = h
+run_unheard (kind.Refused r) h = h
+run_unheard (kind.CRefused r) h = h
+run_unheard kind.StepsSpent h = h
+run_unheard kind.Waiting h = h
+run_unheard (kind.Trapped t) h = h
+run_unheard kind.Dead h = h
+run_unheard (kind.Undefined d) h = h
+run_unheard kind.Memory h = h
 
--- the status of a check is one
-checked_status : (answer : Kind) (named source : List ℕ) (e e' : SinkView) (k : Kind) → Told answer named source e e' k → IsOfCheck answer → IsOfCheck k
-checked_status answer named source e e' k (inl t) h = subst IsOfCheck (sym t.0) h
-checked_status answer named source e e' k (inr m) h = subst IsOfCheck (sym m) tt
+exec_unheard : (k : Kind) → IsOfExec k → IsOfExec (unheard k)
+exec_unheard (kind.Ended code) h = tt
+exec_unheard kind.Usage h = h
+exec_unheard kind.NoFile h = h
+exec_unheard kind.ReadFault h = h
+exec_unheard kind.WriteFault h = h
+exec_unheard kind.OutFault h = h
+exec_unheard (kind.Refused r) h = h
+exec_unheard (kind.CRefused r) h = h
+exec_unheard kind.StepsSpent h = h
+exec_unheard kind.Waiting h = h
+exec_unheard (kind.Trapped t) h = h
+exec_unheard kind.Dead h = h
+exec_unheard (kind.Undefined d) h = h
+exec_unheard kind.Memory h = h
 
-pub causes : (words : List (List ℕ)) (f f' : FolderView) (o o' e e' : SinkView) (status : Status) → IsCall words f f' o o' e e' status → Causes words f f' o o' e e' status
-causes words f f' o o' e e' status call =
-    let so = call_so words o e call.calls o' call.middle call.answer call.named call.source call.goes in
-    let end = told call.answer call.named call.source call.middle e' status call.finishes in
+silent_so : (asked : Option Meaning) (x : Outcome) (o o' e mid e' : SinkView) (k : Kind) → SinksSo asked o o' e mid x → Told x mid e' k → (IsOfRun k → ⊥) → k ≢ kind.Memory → o' ≡ o
+silent_so asked x o o' e mid e' _ s (line m t) a b = s.silent a b
+silent_so asked x o o' e mid e' _ s (mute m) a b = s.silent a b
+silent_so asked x o o' e mid e' _ s (rose n lt r) a b = s.silent (λ h. a (run_unheard x.kind h)) (λ h. b (ap unheard h))
+silent_so asked x o o' e mid e' _ s no_memory a b = absurd (b refl)
+
+exec_status : (x : Outcome) (e e' : SinkView) (k : Kind) → Told x e e' k → IsOfExec x.kind → IsOfExec k
+exec_status x e e' _ (line m t) h = h
+exec_status x e e' _ (mute m) h = h
+exec_status x e e' _ (rose n lt r) h = exec_unheard x.kind h
+exec_status x e e' _ no_memory h = tt
+
+-- the status of a check is one, and that of `emit`
+status_so : (P : Kind → Type 0) (x : Outcome) (k : Kind) → (k ≡ x.kind) ⊎ (k ≡ kind.Memory) → P kind.Memory → P x.kind → P k
+status_so P x k (inl is) memory h = subst P (sym is) h
+status_so P x k (inr is) memory h = subst P (sym is) memory
+
+pub no_c_checked : (asked : Option Meaning) → AreOf asked command.Check → RunC asked → ⊥
+no_c_checked asked of (inl r) = run_checks of.0.command (command_is asked of.0 command.Run of.1 r) of.2
+no_c_checked asked of (inr r) = check_executes of.0.command of.2 (command_is asked of.0 command.Exec of.1 r)
+
+pub no_c_emitted : (asked : Option Meaning) → AreOf asked command.Emit → RunC asked → ⊥
+no_c_emitted asked of (inl r) = run_emits of.0.command (command_is asked of.0 command.Run of.1 r) of.2
+no_c_emitted asked of (inr r) = emit_executes of.0.command of.2 (command_is asked of.0 command.Exec of.1 r)
+
+pub no_c_outside : (asked : Option Meaning) → asked ≡ None → RunC asked → ⊥
+no_c_outside asked is (inl r) = none_asked asked r.0 is r.1
+no_c_outside asked is (inr r) = none_asked asked r.0 is r.1
+
+pub causes : (asked : Option Meaning) (f f' : FolderView) (o o' e e' : SinkView) (status : Status) → IsCall asked f f' o o' e e' status → Causes asked f f' o o' e e' status
+causes asked f f' o o' e e' status call =
+    let x = call.outcome in
+    let so = call_so asked o e call.calls o' call.middle x call.goes in
+    let end = told x call.middle e' status call.finishes in
     let counts = chain_counts f call.calls f' call.chain in
-    let later = finish_faults call.answer call.named call.source call.middle e' status call.finishes in
-    let was = answered call.answer call.named call.source call.middle e' status.kind in
+    let later = finish_faults x call.middle e' status call.finishes in
+    let was = answered x call.middle e' status.kind in
+    let plain = plain_status x call.middle e' status.kind end in
     record {
       code = call.finishes.code;
-      usage = λ h. (so.on_words.usage (was kind.Usage end h (λ x. cc))).0;
-      outside = λ h. in_status call.answer call.named call.source call.middle e' status.kind kind.Usage end (so.on_words.outside h).0;
-      no_file = λ h. (let l = so.faults.no_file (was kind.NoFile end h (λ x. cc)) in chain_raises f call.calls f' _ call.chain l.0);
-      read_fault = λ h. (let l = so.faults.read_fault (was kind.ReadFault end h (λ x. cc)) in chain_raises f call.calls f' _ call.chain l.0);
-      write_fault = λ h. (let l = so.faults.write_fault (was kind.WriteFault end h (λ x. cc)) in chain_raises f call.calls f' _ call.chain l.1.0);
-      out_fault = λ h. out_or_err o o' e call.middle e' later (so.sinks.fault (was kind.OutFault end h (λ x. cc)));
+      usage = λ h. (so.on_words.usage (was kind.Usage end h (λ x. cc) (λ x. cc))).0;
+      outside = λ h. in_status x call.middle e' status.kind kind.Usage end (so.on_words.plain (no_c_outside asked h)) (so.on_words.outside h).0;
+      no_file = λ h. (let l = so.faults.no_file (was kind.NoFile end h (λ x. cc) (λ x. cc)) in chain_raises f call.calls f' _ call.chain l.0);
+      read_fault = λ h. (let l = so.faults.read_fault (was kind.ReadFault end h (λ x. cc) (λ x. cc)) in chain_raises f call.calls f' _ call.chain l.0);
+      write_fault = λ h. (let l = so.faults.write_fault (was kind.WriteFault end h (λ x. cc) (λ x. cc)) in chain_raises f call.calls f' _ call.chain l.1.0);
+      out_fault = fault_so asked x o o' e call.middle e' status.kind so.sinks later end;
       misses = counts.1;
       faults = counts.0;
       out_faults = so.sinks.out_faults;
       err_faults = (let a = so.sinks.err_faults in omega arith);
-      behind = said_behind words call.answer call.named call.source so.sinks.took.0 e call.middle e' status.kind so.speaks so.sinks.err_faults so.sinks.took.1 end;
-      said = λ none. said_alone words call.answer call.named call.source o o' e call.middle e' status.kind so.speaks so.sinks end none (memory_or call.answer);
-      checked = λ files is. (let h = so.on_words.checked files is in (checked_status call.answer call.named call.source call.middle e' status.kind end h.0, h.1));
-      silent = silent_so words call.answer call.named call.source o o' e call.middle e' status.kind so.sinks end;
+      behind = said_behind asked x o o' e call.middle e' status.kind so.speaks so.sinks later end;
+      said = λ none. said_alone asked x o o' e call.middle e' status.kind so.speaks so.sinks later end none (memory_or x.kind);
+      silent = silent_so asked x o o' e call.middle e' status.kind so.sinks end;
+      checked = λ of. (let h = so.on_words.checked of in (status_so IsOfCheck x status.kind (plain (so.on_words.plain (no_c_checked asked of))) tt h.0, h.1));
+      emitted = λ of. (let h = so.on_words.emitted of in (status_so IsOfEmit x status.kind (plain (so.on_words.plain (no_c_emitted asked of))) tt h.0, h.1));
+      executed = λ of. exec_status x call.middle e' status.kind end (so.on_words.executed of);
     }

@@ -1,10 +1,11 @@
-pub mod Names
-pub mod FirstOfList
 pub mod Numbered
 pub mod Reading
+pub mod Given
+pub mod RunLaws
+pub mod Commands
 pub mod Rules
-pub mod Calls
 pub mod Causes
 pub mod ToldCalls
+pub mod Folders
 pub mod ToldFiles
 pub mod Programs

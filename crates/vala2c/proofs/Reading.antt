@@ -1,5 +1,5 @@
 -- What it says that files were read in order: of the calls, of what leaves an entry, and of the files.
-use Rattle.std.proofs.Common.{◌≡◌, ◌≢◌, ℕ, List, [], ◌∷◌, ◌++◌, map, Option, Some, None, Result, Ok, Err, refl, sym, ap, subst, ◌∙◌, inl, inr, length, codes, arith}
+use Rattle.std.proofs.Common.{◌≡◌, ℕ, true, List, [], ◌∷◌, ◌++◌, map, Option, Some, None, Result, Ok, Err, refl, sym, ap, subst, ◌∙◌, append-nil, arith}
 use Rattle.std.specs.Prelude.{IfSome}
 use Rattle.std.specs.List.{last_or, AllByRecursion, Contains}
 use Rattle.std.proofs.lemmas.List.Elements.{Contains-append_right}
@@ -7,54 +7,82 @@ use Rattle.vg_base.specs.declared.outside.FolderFault.{FolderFault}
 use Rattle.vg_base.specs.declared.outside.Call.{Call}
 use Rattle.vg_base.specs.declared.outside.Call.TheVariants.{Read, Write}
 use Rattle.vg_base.specs.Outside.{Files, FolderView, IsAnswer, IsRead, entry_of_read, entry_of_write}
-use Rattle.vala2c.specs.Words.{IsCommand, IsRun, IsCheck, NamesFiles, c_file}
-use Rattle.vala2c.specs.Course.{Chain, AllRead}
+use Rattle.command_line.specs.declared.choice.Command.{Command}
+use Rattle.command_line.specs.declared.choice.Command.TheVariants as command
+use Rattle.command_line.specs.Meaning.{Meaning, writes}
+use Rattle.vala2c.specs.Course.{Chain, AllRead, AllGiven, FrontRead, files_read, input_file}
 use Rattle.vala2c.specs.Course as course
 use Rattle.vala2c.specs.Causes.{Hold, IsFileOf}
 
--- 1. The words
+-- 1. What the words ask for
 
-tails : (x y : List ℕ) (xs ys : List (List ℕ)) → x ∷ xs ≡ y ∷ ys → xs ≡ ys
-tails x y xs ys e = cc
+-- words ask for one thing
+pub one_asked : (asked : Option Meaning) (a b : Meaning) → asked ≡ Some a → asked ≡ Some b → a ≡ b
+one_asked asked a b h k = some_same a b (sym h ∙ k)
+  where
+    some_same : (a b : Meaning) → Some a ≡ Some b → a ≡ b
+    some_same a b e = cc
 
-heads : (x y : List ℕ) (xs ys : List (List ℕ)) → x ∷ xs ≡ y ∷ ys → x ≡ y
-heads x y xs ys e = cc
+-- words that ask for nothing ask for no thing
+pub none_asked : {A : Type 0} (asked : Option Meaning) (m : Meaning) → asked ≡ None → asked ≡ Some m → A
+none_asked asked m h k = absurd (differ m (sym h ∙ k))
+  where
+    differ : (m : Meaning) → None ≡ Some m → ⊥
+    differ m e = cc
 
-words_of : (words files : List (List ℕ)) → NamesFiles words files → (command : List ℕ) × (words ≡ command ∷ files)
-words_of words files (inl is) = (codes "run", is.0.words_are)
-words_of words files (inr is) = (codes "check", is.words_are)
+-- a command is one, and one that checks or is given its C does not write
+pub run_checks : {A : Type 0} (c : Command) → c ≡ command.Run → c ≡ command.Check → A
+run_checks c h k = absurd (differ (sym h ∙ k))
+  where
+    differ : command.Run ≡ command.Check → ⊥
+    differ e = cc
 
--- the words name one list of files
-pub one_list : (words a b : List (List ℕ)) → NamesFiles words a → NamesFiles words b → a ≡ b
-one_list words a b p q =
-    let x = words_of words a p in
-    let y = words_of words b q in
-    tails x.0 y.0 a b (sym x.1 ∙ y.1)
+pub run_emits : {A : Type 0} (c : Command) → c ≡ command.Run → c ≡ command.Emit → A
+run_emits c h k = absurd (differ (sym h ∙ k))
+  where
+    differ : command.Run ≡ command.Emit → ⊥
+    differ e = cc
 
-other_word : codes "run" ≡ codes "check" → ⊥
-other_word e = let l : length (codes "run") ≡ length (codes "check") = ap length e in absurd (omega (arith, l))
+pub run_executes : {A : Type 0} (c : Command) → c ≡ command.Run → c ≡ command.Exec → A
+run_executes c h k = absurd (differ (sym h ∙ k))
+  where
+    differ : command.Run ≡ command.Exec → ⊥
+    differ e = cc
 
--- no words are those of both commands
-pub two_commands : {A : Type 0} (words a b : List (List ℕ)) → IsCommand (codes "run") words a → IsCheck words b → A
-two_commands words a b p q = absurd (other_word (heads (codes "run") (codes "check") a b (sym p.words_are ∙ q.words_are)))
+pub check_emits : {A : Type 0} (c : Command) → c ≡ command.Check → c ≡ command.Emit → A
+check_emits c h k = absurd (differ (sym h ∙ k))
+  where
+    differ : command.Check ≡ command.Emit → ⊥
+    differ e = cc
 
-pub one_command : {A : Type 0} (words a b : List (List ℕ)) → IsRun words a → IsCheck words b → A
-one_command words a b p q = two_commands words a b p.0 q
+pub check_executes : {A : Type 0} (c : Command) → c ≡ command.Check → c ≡ command.Exec → A
+check_executes c h k = absurd (differ (sym h ∙ k))
+  where
+    differ : command.Check ≡ command.Exec → ⊥
+    differ e = cc
 
--- where no file is the C file, the words run
-pub runs : (words files : List (List ℕ)) (target : List ℕ) → IsCommand (codes "run") words files → target ≡ c_file files → AllByRecursion (λ word. word ≢ target) files → IsRun words files
-runs words files target is e other = (is, subst (λ t. AllByRecursion (λ w. w ≢ t) files) e other)
+pub emit_executes : {A : Type 0} (c : Command) → c ≡ command.Emit → c ≡ command.Exec → A
+emit_executes c h k = absurd (differ (sym h ∙ k))
+  where
+    differ : command.Emit ≡ command.Exec → ⊥
+    differ e = cc
 
--- where a file is the C file, the words are none that run
-pub no_run : (words files : List (List ℕ)) (target : List ℕ) → IsCommand (codes "run") words files → target ≡ c_file files → (AllByRecursion (λ word. word ≢ target) files → ⊥) → (other : List (List ℕ)) → NamesFiles words other → ⊥
-no_run words files target is e not other (inl r) =
-    let same : other ≡ files = tails (codes "run") (codes "run") other files (sym r.0.words_are ∙ is.words_are) in
-    not (subst (λ t. AllByRecursion (λ w. w ≢ t) files) (sym e) (subst (λ l. AllByRecursion (λ w. w ≢ c_file l) l) same r.1))
-no_run words files target is e not other (inr c) = two_commands words files other is c
+pub check_writes : {A : Type 0} (c : Command) → c ≡ command.Check → writes c ≡ true → A
+check_writes c h k = absurd (differ (sym (ap writes h) ∙ k))
+  where
+    differ : writes command.Check ≡ true → ⊥
+    differ e = cc
 
-pub is_file : (words files front : List (List ℕ)) (file : List ℕ) (behind : List (List ℕ)) → NamesFiles words files → files ≡ front ++ file ∷ behind → IsFileOf words file
-is_file words files front file behind is e =
-    (files, is, subst (λ fs. Contains fs file) (sym e) (Contains-append_right front (file ∷ behind) file (0, omega arith, refl)))
+pub exec_writes : {A : Type 0} (c : Command) → c ≡ command.Exec → writes c ≡ true → A
+exec_writes c h k = absurd (differ (sym (ap writes h) ∙ k))
+  where
+    differ : writes command.Exec ≡ true → ⊥
+    differ e = cc
+
+-- a file in front of which others stand is one of those that are read
+pub is_file : (asked : Option Meaning) (m : Meaning) (front : List (List ℕ)) (file : List ℕ) (behind : List (List ℕ)) → asked ≡ Some m → files_read m ≡ front ++ file ∷ behind → IsFileOf asked file
+is_file asked m front file behind is e =
+    (m, is, subst (λ fs. Contains fs file) (sym e) (Contains-append_right front (file ∷ behind) file (0, omega arith, refl)))
 
 -- 2. The calls
 
@@ -75,6 +103,23 @@ chain_split f g _ _ _ tail (course.one file source files sources calls h) (cours
 pub one_more : (files sources : List (List ℕ)) (reads : List Call) (file source : List ℕ) → AllRead files sources reads → AllRead (files ++ file ∷ []) (sources ++ source ∷ []) (reads ++ Read file (Ok source) ∷ [])
 one_more _ _ _ file source course.none = course.one file source [] [] [] course.none
 one_more _ _ _ file source (course.one f s files sources calls h) = course.one f s (files ++ file ∷ []) (sources ++ source ∷ []) (calls ++ Read file (Ok source) ∷ []) (one_more files sources calls file source h)
+
+-- the sources and the input that were given: the reads of the sources stand in front
+pub given_front : (m : Meaning) (sources : List (List ℕ)) (input : List ℕ) (reads : List Call) → AllGiven m sources input reads → (front : List Call) × (tail : List Call) × AllRead m.files sources front × (reads ≡ front ++ tail)
+given_front m sources _ reads (course.alone _ _ none all) = (reads, [], all, sym (append-nil reads))
+given_front m sources _ _ (course.with_input file _ input calls is all bytes) = (calls, Read file (Ok input) ∷ [], all, refl)
+
+-- all files that are read were read
+pub given_read : (m : Meaning) (sources : List (List ℕ)) (input : List ℕ) (reads : List Call) → AllGiven m sources input reads → (contents : List (List ℕ)) × AllRead (files_read m) contents reads
+given_read m sources _ reads (course.alone _ _ none all) = (sources, subst (λ o. AllRead (m.files ++ input_file o) sources reads) (sym none) (subst (λ fs. AllRead fs sources reads) (sym (append-nil m.files)) all))
+given_read m sources _ _ (course.with_input file _ input calls is all bytes) =
+    (sources ++ input ∷ [], subst (λ o. AllRead (m.files ++ input_file o) (sources ++ input ∷ []) (calls ++ Read file (Ok input) ∷ [])) (sym is) (one_more m.files sources calls file input all))
+
+-- they are a front of the plan
+pub given_whole : (m : Meaning) (sources : List (List ℕ)) (input : List ℕ) (reads : List Call) → AllGiven m sources input reads → FrontRead (files_read m) reads
+given_whole m sources input reads all =
+    let read = given_read m sources input reads all in
+    record { front = files_read m; behind = []; files_are = sym (append-nil (files_read m)); sources = read.0; all_read = read.1 }
 
 -- the calls that leave an entry
 abbrev pub entries : List Call → List Call

@@ -1,12 +1,13 @@
 -- The files of a folder that tells them.
-use Rattle.std.proofs.Common.{◌≡◌, ◌≢◌, ℕ, zero, suc, List, [], ◌∷◌, ◌++◌, length, Option, Some, None, Result, Ok, Err, false, refl, sym, ap, ◌∙◌, subst, inl, inr, ◌⊎◌, arith, pos}
+use Rattle.std.proofs.Common.{◌≡◌, ◌≢◌, ℕ, zero, suc, true, List, [], ◌∷◌, ◌++◌, map, length, Option, Some, None, Result, Ok, Err, refl, sym, ap, ◌∙◌, subst, inl, inr, ◌⊎◌, arith, append-nil, pos}
+use Rattle.std.specs.Prelude.{IsSome}
 use Rattle.std.specs.List.{AllByRecursion, Contains}
 use Rattle.std.proofs.lemmas.List.Elements.{All-from_recursion}
 use Rattle.vg_base.specs.declared.outside.FolderFault.{FolderFault}
 use Rattle.vg_base.specs.declared.outside.FolderFault.TheVariants as fault
 use Rattle.vg_base.specs.declared.outside.Call.{Call}
 use Rattle.vg_base.specs.declared.outside.Call.TheVariants.{Read, Write}
-use Rattle.vg_base.specs.Outside.{Files, FolderView, SinkView, IsAnswer, IsRead, IsWrite, Writes, WritesTold}
+use Rattle.vg_base.specs.Outside.{Files, FolderView, SinkView, IsAnswer}
 use Rattle.c_tree.specs.declared.kinds.Refusal.{Refusal as CRefusal}
 use Rattle.c_tree.specs.declared.unit.Unit.{Unit as CUnit}
 use Rattle.c_tree.specs.Answers.{Answers}
@@ -14,50 +15,26 @@ use Rattle.c_tree.specs.Laws.{OneAnswer}
 use Rattle.static_rules.specs.declared.rules.Refusal.{Refusal}
 use Rattle.vala_compile.specs.Program.{AreRead}
 use Rattle.vala_compile.specs.Correct.{IsCompiled}
+use Rattle.command_line.specs.declared.choice.Command.{Command}
+use Rattle.command_line.specs.declared.choice.Command.TheVariants as command
+use Rattle.command_line.specs.Names.{c_file}
+use Rattle.command_line.specs.Meaning.{Meaning, writes}
 use Rattle.vala2c.specs.declared.status.Kind.{Kind}
 use Rattle.vala2c.specs.declared.status.Kind.TheVariants as kind
 use Rattle.vala2c.specs.declared.status.Status.{Status}
-use Rattle.vala2c.specs.Words.{IsRun, IsCheck, NamesFiles, c_file, world_of}
-use Rattle.vala2c.specs.Course.{Chain, AllRead, ReadUpTo, FrontRead, IsBuilt, IsRefusal, IsPlanned, Goes, IsCall}
+use Rattle.vala2c.specs.Status.{unheard}
+use Rattle.vala2c.specs.Course.{Chain, AllRead, AllGiven, IsBuilt, IsRefusal, IsPlanned, HasC, Goes, GoesBy, Outcome, IsCall, files_read, input_file, written, world_of}
 use Rattle.vala2c.specs.Course as course
-use Rattle.vala2c.specs.Causes.{IsOutside, AreOfRun, IsOfRun, IsFileOf, IsCFile, WritesNothing, RefusedUnless, Hold, HoldsC, IsHonest, FilesTold}
-use Rattle.vala2c.proofs.Reading.{After, read_told, reads_told, chain_split, one_list, one_command, is_file, entries, entries_behind, entries_same, one_holding, all_front, all_both, all_so}
-use Rattle.vala2c.proofs.Rules.{one_refusal, never_accepted, never_built, named_by}
-use Rattle.vala2c.proofs.Causes.{ran_so, not_of_run, told, Told, answered, goes_planned}
-use Rattle.vala2c.proofs.ToldCalls.{run_answered, chain_told, entries_planned}
+use Rattle.vala2c.specs.Causes.{IsOfRun, IsFileOf, IsCFile, WritesNothing, RefusedUnless, Hold, HoldInput, IsThere, HoldsC, IsHonest, FilesTold}
+use Rattle.vala2c.proofs.Reading.{After, reads_told, chain_split, given_read, one_asked, none_asked, run_checks, run_emits, run_executes, check_emits, check_writes, exec_writes, emit_executes, is_file, entries, entries_behind, entries_same, one_holding, all_both}
+use Rattle.vala2c.proofs.Rules.{one_refusal, never_accepted, never_built}
+use Rattle.vala2c.proofs.Causes.{ran_so, not_of_run, told, Told, answered, plain_status, call_so, goes_planned, no_c_checked}
+use Rattle.vala2c.proofs.Causes as causes
+use Rattle.vala2c.proofs.ToldCalls.{run_answered, chain_told, entries_planned, asked_by}
+use Rattle.vala2c.proofs.Folders.{no_call_more, read_alone, OnlyCFile, given_told, wrote_told, back_told, one_content}
 
--- 1. One call after another
+-- 1. Reads up to a file
 
--- a read in front of the other calls
-first_read : (f g : FolderView) (name : List ℕ) (answer : Result (List ℕ) FolderFault) (calls : List Call) → Chain f (Read name answer ∷ calls) g → (mid : FolderView) × IsRead f name answer mid × Chain mid calls g
-first_read f g name answer calls (course.read _ mid _ _ _ _ h rest) = (mid, h, rest)
-
-first_write : (f g : FolderView) (name bytes : List ℕ) (answer : Result (Unit {0}) FolderFault) (calls : List Call) → Chain f (Write name bytes answer ∷ calls) g → (mid : FolderView) × IsWrite f name bytes answer mid × Chain mid calls g
-first_write f g name bytes answer calls (course.write _ mid _ _ _ _ _ h rest) = (mid, h, rest)
-
-no_call_more : (f g : FolderView) → Chain f [] g → f ≡ g
-no_call_more f g (course.none _) = refl
-
-write_after : (files : Files) (name bytes : List ℕ) (answer : Result (Unit {0}) FolderFault) (p : Option Files) → WritesTold (Some files) name bytes answer p → (after : Files) × (p ≡ Some after) × Writes files name bytes answer after
-write_after files name bytes answer None h = absurd h
-write_after files name bytes answer (Some after) h = (after, refl, h)
-
-pub write_told : (f g : FolderView) (files : Files) (name bytes : List ℕ) (answer : Result (Unit {0}) FolderFault) → After f files → IsWrite f name bytes answer g → (after : Files) × After g after × Writes files name bytes answer after
-write_told f g files name bytes answer is h = write_after files name bytes answer g.files (subst (λ p. WritesTold p name bytes answer g.files) is h.files)
-
--- 2. What is left behind the calls
-
--- no file but the C file changed
-abbrev pub OnlyCFile : List (List ℕ) → Files → Files → Type 0
-OnlyCFile names files after = (name : List ℕ) → name ≢ c_file names → after name ≡ files name
-
-read_alone : (f g : FolderView) (files : Files) (name : List ℕ) (answer : Result (List ℕ) FolderFault) → After f files → Chain f (Read name answer ∷ []) g → After g files × IsAnswer files name answer
-read_alone f g files name answer is chain =
-    let a = first_read f g name answer [] chain in
-    let r = read_told f a.0 files name answer is a.1 in
-    (subst (λ x. After x files) (no_call_more a.0 g a.2) r.0, r.1)
-
--- behind reads up to a file
 pub record Unread (files : Files) (g : FolderView) (front sources : List (List ℕ)) (file : List ℕ) (answer : Result (List ℕ) FolderFault) : Type 0 where
   pub told : After g files
   pub holds : Hold files front sources
@@ -70,51 +47,7 @@ read_up_to f g files front sources file answer reads all is chain =
     let last = read_alone x.0 g files file answer before.0 x.2 in
     record { told = last.0; holds = before.1; honest = last.1 }
 
--- behind the reads and a write
-pub record Wrote (g : FolderView) (files : Files) (names sources : List (List ℕ)) (c : List ℕ) (answer : Result (Unit {0}) FolderFault) : Type 0 where
-  pub holds : Hold files names sources
-  pub after : Files
-  pub told : After g after
-  pub writes : Writes files (c_file names) c answer after
-
-read_and_write : (f g : FolderView) (files : Files) (names sources : List (List ℕ)) (c : List ℕ) (answer : Result (Unit {0}) FolderFault) (reads : List Call) → AllRead names sources reads → After f files → Chain f (reads ++ Write (c_file names) c answer ∷ []) g → Wrote g files names sources c answer
-read_and_write f g files names sources c answer reads all is chain =
-    let x = chain_split f g names sources reads _ all chain in
-    let before = reads_told f x.0 files names sources reads all is x.1 in
-    let b = first_write x.0 g (c_file names) c answer [] x.2 in
-    let w = write_told x.0 b.0 files (c_file names) c answer before.0 b.1 in
-    record { holds = before.1; after = w.0; told = subst (λ v. After v w.0) (no_call_more b.0 g b.2) w.1; writes = w.2 }
-
--- behind all calls
-pub record WroteAndRead (g : FolderView) (files : Files) (names sources : List (List ℕ)) (c : List ℕ) (answer : Result (List ℕ) FolderFault) : Type 0 where
-  pub holds : Hold files names sources
-  pub after : Files
-  pub told : After g after
-  pub others : OnlyCFile names files after
-  pub written : after (c_file names) ≡ Some c
-  pub honest : IsAnswer after (c_file names) answer
-
-pub all_calls : (f g : FolderView) (files : Files) (names sources : List (List ℕ)) (c : List ℕ) (answer : Result (List ℕ) FolderFault) (reads : List Call) → AllRead names sources reads → After f files
-    → Chain f (reads ++ Write (c_file names) c (Ok tt) ∷ Read (c_file names) answer ∷ []) g → WroteAndRead g files names sources c answer
-all_calls f g files names sources c answer reads all is chain =
-    let x = chain_split f g names sources reads _ all chain in
-    let before = reads_told f x.0 files names sources reads all is x.1 in
-    let b = first_write x.0 g (c_file names) c (Ok tt) _ x.2 in
-    let w = write_told x.0 b.0 files (c_file names) c (Ok tt) before.0 b.1 in
-    let back = read_alone b.0 g w.0 (c_file names) answer w.1 b.2 in
-    record { holds = before.1; after = w.0; told = back.0; others = w.2.others; written = w.2.written refl; honest = back.1 }
-
--- 3. What each call says of the files
-
--- no file of the words is the C file that they write
-never_the_c_file : (words names : List (List ℕ)) → NamesFiles words names → AllByRecursion (λ name. IsCFile words name → ⊥) names
-never_the_c_file words names (inl is) =
-    all_so (λ name. name ≢ c_file names) (λ name. IsCFile words name → ⊥) names (λ name other x. other (x.2 ∙ ap c_file (one_list words x.0 names (inl x.1) (inl is)))) is.1
-never_the_c_file words names (inr is) = none_is_c names
-  where
-    none_is_c : (ns : List (List ℕ)) → AllByRecursion (λ name. IsCFile words name → ⊥) ns
-    none_is_c [] = tt
-    none_is_c (n ∷ ns) = ((λ x. one_command words x.0 names x.1 is), none_is_c ns)
+-- 2. What each call says of the files
 
 first_held : (files : Files) (name source : List ℕ) (names sources : List (List ℕ)) → Hold files (name ∷ names) (source ∷ sources) → files name ≡ Some source
 first_held files name source names sources h = cc
@@ -122,77 +55,78 @@ first_held files name source names sources h = cc
 others_held : (files : Files) (name source : List ℕ) (names sources : List (List ℕ)) → Hold files (name ∷ names) (source ∷ sources) → Hold files names sources
 others_held files name source names sources h = cc
 
-honest_reads : (words : List (List ℕ)) (files after : Files) (names sources : List (List ℕ)) (reads : List Call) → AllRead names sources reads → AllByRecursion (λ name. IsCFile words name → ⊥) names → Hold files names sources → AllByRecursion (IsHonest words files after) reads
-honest_reads words files after _ _ _ course.none never h = tt
-honest_reads words files after _ _ _ (course.one name source names sources calls all) never h =
-    (((λ x. first_held files name source names sources h), (λ x. absurd (never.0 x))), honest_reads words files after names sources calls all never.1 (others_held files name source names sources h))
+honest_reads : (asked : Option Meaning) (files after : Files) (names sources : List (List ℕ)) (reads : List Call) → AllRead names sources reads → Hold files names sources → AllByRecursion (IsHonest asked files after) reads
+honest_reads asked files after _ _ _ course.none h = tt
+honest_reads asked files after _ _ _ (course.one name source names sources calls all) h =
+    let there = first_held files name source names sources h in
+    (((λ x. there), (λ x. inl there)), honest_reads asked files after names sources calls all (others_held files name source names sources h))
 
 -- the entries are these reads and then these
-honest_so : (words : List (List ℕ)) (files after : Files) (names sources : List (List ℕ)) (reads tail : List Call) → AllRead names sources reads → AllByRecursion (λ name. IsCFile words name → ⊥) names → Hold files names sources
-    → AllByRecursion (IsHonest words files after) (entries tail) → AllByRecursion (IsHonest words files after) (entries (reads ++ tail))
-honest_so words files after names sources reads tail all never h k =
-    subst (AllByRecursion (IsHonest words files after)) (sym (entries_behind names sources reads tail all)) (all_both (IsHonest words files after) reads (entries tail) (honest_reads words files after names sources reads all never h) k)
+honest_so : (asked : Option Meaning) (files after : Files) (names sources : List (List ℕ)) (reads tail : List Call) → AllRead names sources reads → Hold files names sources → AllByRecursion (IsHonest asked files after) (entries tail)
+    → AllByRecursion (IsHonest asked files after) (entries (reads ++ tail))
+honest_so asked files after names sources reads tail all h k =
+    subst (AllByRecursion (IsHonest asked files after)) (sym (entries_behind names sources reads tail all)) (all_both (IsHonest asked files after) reads (entries tail) (honest_reads asked files after names sources reads all h) k)
 
-honest_unread : (words : List (List ℕ)) (files after : Files) (file : List ℕ) (x : FolderFault) → after ≡ files → AllByRecursion (IsHonest words files after) (entries (Read file (Err x) ∷ []))
-honest_unread words files after file fault.Missing same = ((λ n. same), tt)
-honest_unread words files after file fault.Failed same = ((λ n. same), tt)
-honest_unread words files after file fault.Memory same = tt
+honest_unread : (asked : Option Meaning) (files after : Files) (file : List ℕ) (x : FolderFault) → after ≡ files → AllByRecursion (IsHonest asked files after) (entries (Read file (Err x) ∷ []))
+honest_unread asked files after file fault.Missing same = ((λ n. same), tt)
+honest_unread asked files after file fault.Failed same = ((λ n. same), tt)
+honest_unread asked files after file fault.Memory same = tt
 
-honest_write : (words : List (List ℕ)) (files after : Files) (target c : List ℕ) (a : Result (Unit {0}) FolderFault) → (a ≡ Ok tt → after target ≡ Some c) → AllByRecursion (IsHonest words files after) (entries (Write target c a ∷ []))
-honest_write words files after target c (Ok x) there = (there refl, tt)
-honest_write words files after target c (Err fault.Missing) there = (tt, tt)
-honest_write words files after target c (Err fault.Failed) there = (tt, tt)
-honest_write words files after target c (Err fault.Memory) there = tt
+honest_write : (asked : Option Meaning) (files after : Files) (target c : List ℕ) (a : Result (Unit {0}) FolderFault) → (a ≡ Ok tt → after target ≡ Some c) → AllByRecursion (IsHonest asked files after) (entries (Write target c a ∷ []))
+honest_write asked files after target c (Ok x) there = (there refl, tt)
+honest_write asked files after target c (Err fault.Missing) there = (tt, tt)
+honest_write asked files after target c (Err fault.Failed) there = (tt, tt)
+honest_write asked files after target c (Err fault.Memory) there = tt
 
 -- the C file is read back
-honest_back : (words names : List (List ℕ)) (files after : Files) (c : List ℕ) (a : Result (List ℕ) FolderFault) → IsRun words names → after (c_file names) ≡ Some c → IsAnswer after (c_file names) a
-    → AllByRecursion (IsHonest words files after) (entries (Write (c_file names) c (Ok tt) ∷ Read (c_file names) a ∷ []))
-honest_back words names files after c (Ok b) is there honest = (there, (((λ x. absurd (x (names, is, refl))), (λ x. honest)), tt))
-honest_back words names files after c (Err fault.Missing) is there honest = (there, ((λ x. absurd (x (names, is, refl))), tt))
-honest_back words names files after c (Err fault.Failed) is there honest = (there, ((λ x. absurd (x (names, is, refl))), tt))
-honest_back words names files after c (Err fault.Memory) is there honest = (there, tt)
+honest_back : (m : Meaning) (files after : Files) (c : List ℕ) (a : Result (List ℕ) FolderFault) → IsCFile (Some m) (c_file m.name) → after (c_file m.name) ≡ Some c → IsAnswer after (c_file m.name) a
+    → AllByRecursion (IsHonest (Some m) files after) (entries (Write (c_file m.name) c (Ok tt) ∷ Read (c_file m.name) a ∷ []))
+honest_back m files after c (Ok b) is there honest = (there, (((λ x. absurd (x is)), (λ x. inr honest)), tt))
+honest_back m files after c (Err fault.Missing) is there honest = (there, ((λ x. absurd (x is)), tt))
+honest_back m files after c (Err fault.Failed) is there honest = (there, ((λ x. absurd (x is)), tt))
+honest_back m files after c (Err fault.Memory) is there honest = (there, tt)
 
 -- What is left behind the calls of a plan.
-pub record PlanSo (words : List (List ℕ)) (files : Files) (g : FolderView) (calls : List Call) : Type 0 where
+pub record PlanSo (m : Meaning) (files : Files) (g : FolderView) (calls : List Call) : Type 0 where
   pub after : Files
   pub told : After g after
-  pub others : (name : List ℕ) → (IsCFile words name → ⊥) → after name ≡ files name
-  pub checked : (names : List (List ℕ)) → IsCheck words names → after ≡ files
-  pub honest : AllByRecursion (IsHonest words files after) (entries calls)
+  pub others : (name : List ℕ) → (IsCFile (Some m) name → ⊥) → after name ≡ files name
+  pub kept : (writes m.command ≡ true → ⊥) → after ≡ files
+  pub honest : AllByRecursion (IsHonest (Some m) files after) (entries calls)
 
-nothing_changed : (words : List (List ℕ)) (files : Files) (g : FolderView) (calls : List Call) → After g files → AllByRecursion (IsHonest words files files) (entries calls) → PlanSo words files g calls
-nothing_changed words files g calls is h = record { after = files; told = is; others = λ name x. refl; checked = λ names x. refl; honest = h }
+nothing_changed : (m : Meaning) (files : Files) (g : FolderView) (calls : List Call) → After g files → AllByRecursion (IsHonest (Some m) files files) (entries calls) → PlanSo m files g calls
+nothing_changed m files g calls is h = record { after = files; told = is; others = λ name x. refl; kept = λ x. refl; honest = h }
 
-c_file_changed : (words names : List (List ℕ)) (files after : Files) (g : FolderView) (calls : List Call) → IsRun words names → After g after → OnlyCFile names files after → AllByRecursion (IsHonest words files after) (entries calls) → PlanSo words files g calls
-c_file_changed words names files after g calls is there others h =
-    record { after = after; told = there; others = λ name x. others name (λ e. x (names, is, e)); checked = λ ns x. one_command words names ns is x; honest = h }
+c_file_changed : (m : Meaning) (files after : Files) (g : FolderView) (calls : List Call) → writes m.command ≡ true → After g after → OnlyCFile m files after → AllByRecursion (IsHonest (Some m) files after) (entries calls) → PlanSo m files g calls
+c_file_changed m files after g calls w there others h =
+    record { after = after; told = there; others = λ name x. others name (λ e. x (m, refl, w, e)); kept = λ x. absurd (x w); honest = h }
 
-never_in_front : (words names front rest : List (List ℕ)) → NamesFiles words names → names ≡ front ++ rest → AllByRecursion (λ name. IsCFile words name → ⊥) front
-never_in_front words names front rest is e = all_front (λ name. IsCFile words name → ⊥) front rest (subst (AllByRecursion (λ name. IsCFile words name → ⊥)) e (never_the_c_file words names is))
+-- all that was given in front of other calls is held
+front_held : (files : Files) (m : Meaning) (sources : List (List ℕ)) (input : List ℕ) (reads tail : List Call) (f g : FolderView) → AllGiven m sources input reads → After f files → Chain f (reads ++ tail) g → (contents : List (List ℕ)) × AllRead (files_read m) contents reads × Hold files (files_read m) contents
+front_held files m sources input reads tail f g all is chain =
+    let r = given_read m sources input reads all in
+    let x = chain_split f g (files_read m) r.0 reads tail r.1 chain in
+    let t = reads_told f x.0 files (files_read m) r.0 reads r.1 is x.1 in
+    (r.0, r.1, t.1)
 
-pub plan_so : (words : List (List ℕ)) (files : Files) (f g : FolderView) (calls : List Call) → After f files → Chain f calls g → IsPlanned words calls → PlanSo words files g calls
-plan_so words files f g calls is chain course.none = nothing_changed words files g [] (subst (λ x. After x files) (no_call_more f g chain) is) tt
-plan_so words files f g calls is chain (course.reads ns rs n up) =
+pub plan_so : (m : Meaning) (files : Files) (f g : FolderView) (calls : List Call) → After f files → Chain f calls g → IsPlanned m calls → PlanSo m files g calls
+plan_so m files f g calls is chain (course.reads rs up) =
     let r = reads_told f g files up.front up.sources rs up.all_read is chain in
-    let h = honest_reads words files files up.front up.sources rs up.all_read (never_in_front words ns up.front up.behind n up.files_are) r.1 in
-    nothing_changed words files g rs r.0 (subst (AllByRecursion (IsHonest words files files)) (sym (entries_same up.front up.sources rs up.all_read)) h)
-plan_so words files f g calls is chain (course.unread ns file rs x n up) =
+    let h = honest_reads (Some m) files files up.front up.sources rs up.all_read r.1 in
+    nothing_changed m files g rs r.0 (subst (AllByRecursion (IsHonest (Some m) files files)) (sym (entries_same up.front up.sources rs up.all_read)) h)
+plan_so m files f g calls is chain (course.unread file rs x up) =
     let r = read_up_to f g files up.front up.sources file (Err x) rs up.all_read is chain in
-    nothing_changed words files g _ r.told (honest_so words files files up.front up.sources rs _ up.all_read (never_in_front words ns up.front (file ∷ up.behind) n up.files_are) r.holds (honest_unread words files files file x refl))
-plan_so words files f g calls is chain (course.written ns rs c a h) =
-    let w = read_and_write f g files ns h.sources c a rs h.all_read is chain in
-    let never = never_the_c_file words ns (inl h.is_run) in
-    c_file_changed words ns files w.after g _ h.is_run w.told w.writes.others (honest_so words files w.after ns h.sources rs _ h.all_read never w.holds (honest_write words files w.after (c_file ns) c a w.writes.written))
-plan_so words files f g calls is chain (course.back ns rs c a h) =
-    let w = all_calls f g files ns h.sources c a rs h.all_read is chain in
-    let never = never_the_c_file words ns (inl h.is_run) in
-    c_file_changed words ns files w.after g _ h.is_run w.told w.others (honest_so words files w.after ns h.sources rs _ h.all_read never w.holds (honest_back words ns files w.after c a h.is_run w.written w.honest))
+    nothing_changed m files g _ r.told (honest_so (Some m) files files up.front up.sources rs _ up.all_read r.holds (honest_unread (Some m) files files file x refl))
+plan_so m files f g calls is chain (course.wrote i rs c a h) =
+    let w = wrote_told f g files m h.sources i c a rs h.all_given is chain in
+    let r = front_held files m h.sources i rs _ f g h.all_given is chain in
+    c_file_changed m files w.after g _ h.writes w.told w.writes.others (honest_so (Some m) files w.after (files_read m) r.0 rs _ r.1 r.2 (honest_write (Some m) files w.after (c_file m.name) c a w.writes.written))
+plan_so m files f g calls is chain (course.back i rs c a run h) =
+    let w = back_told f g files m h.sources i c a rs h.all_given is chain in
+    let r = front_held files m h.sources i rs _ f g h.all_given is chain in
+    c_file_changed m files w.after g _ h.writes w.told w.others (honest_so (Some m) files w.after (files_read m) r.0 rs _ r.1 r.2 (honest_back m files w.after c a (m, refl, h.writes, refl) w.written w.honest))
 
--- 4. What is read back is what was written
-
--- the bytes of a file are one list
-pub one_content : (o : Option (List ℕ)) (a b : List ℕ) → o ≡ Some a → o ≡ Some b → a ≡ b
-one_content o a b e h = cc
+-- 3. What is held
 
 no_content : {A : Type 0} (o : Option (List ℕ)) (s : List ℕ) → o ≡ Some s → o ≡ None → A
 no_content o s e h = absurd (differ o s e h)
@@ -201,8 +135,8 @@ no_content o s e h = absurd (differ o s e h)
     differ o s e h = cc
 
 -- what is the C of sources is not refused
-pub never_refused : {A : Type 0} → OneAnswer → (files : List (List ℕ)) (c bytes : List ℕ) (r : CRefusal) → IsCompiled files false c → bytes ≡ c → Answers bytes (length c) (Err r) → A
-never_refused one files c bytes r h same a =
+pub never_refused : {A : Type 0} → OneAnswer → (m : Meaning) (sources : List (List ℕ)) (c bytes : List ℕ) (r : CRefusal) → IsCompiled sources m.strict_null c → bytes ≡ c → Answers bytes (length c) (Err r) → A
+never_refused one m sources c bytes r h same a =
     absurd (differ h.unit r (one c (length c) (Ok h.unit) (Err r) h.is_unit (subst (λ b. Answers b (length c) (Err r)) same a)))
   where
     differ : (unit : CUnit) (r : CRefusal) → Ok unit ≡ Err r → ⊥
@@ -215,146 +149,177 @@ held files (n ∷ names) [] name h x = cc
 held files (n ∷ names) (s ∷ sources) name h (zero, l, x) = (s, ap files (sym x) ∙ first_held files n s names sources h)
 held files (n ∷ names) (s ∷ sources) name h (suc k, l, x) = held files names sources name (others_held files n s names sources h) (k, omega (arith, l), x)
 
--- 5. A course over such a folder
+hold_one : (files : Files) (names sources : List (List ℕ)) (file b : List ℕ) → Hold files names sources → files file ≡ Some b → Hold files (names ++ file ∷ []) (sources ++ b ∷ [])
+hold_one files [] [] file b h is = ap (λ o. o ∷ []) is
+hold_one files [] (s ∷ sources) file b h is = cc
+hold_one files (n ∷ names) [] file b h is = cc
+hold_one files (n ∷ names) (s ∷ sources) file b h is =
+    ap (λ o. o ∷ map files (names ++ file ∷ [])) (first_held files n s names sources h) ∙ ap (λ l. Some s ∷ l) (hold_one files names sources file b (others_held files n s names sources h) is)
 
--- what the status says of the sources that the files hold
-pub record FilesSo (words : List (List ℕ)) (files after : Files) (k : Kind) : Type 0 where
-  pub same : WritesNothing k → after ≡ files
-  pub written : AreOfRun words → IsOfRun k → HoldsC words files after
-  pub never : (r : CRefusal) → k ≢ kind.CRefused r
-  pub no_file : k ≡ kind.NoFile → (name : List ℕ) × IsFileOf words name × (files name ≡ None)
-  pub if_missing : (name : List ℕ) → IsFileOf words name → files name ≡ None → (k ≡ kind.NoFile) ⊎ ((k ≡ kind.ReadFault) ⊎ (k ≡ kind.Memory))
-  pub refused : (r : Refusal) → k ≡ kind.Refused r → (names : List (List ℕ)) × (sources : List (List ℕ)) × Hold files names sources × IsRefusal words names sources r
-  pub if_broken : (names sources : List (List ℕ)) (r : Refusal) → Hold files names sources → IsRefusal words names sources r → RefusedUnless r k
-  pub accepted : (names : List (List ℕ)) (code : _) → IsCheck words names → k ≡ kind.Ended code → (sources : List (List ℕ)) × Hold files names sources × AreRead sources
-  pub if_accepted : (names sources : List (List ℕ)) → IsCheck words names → Hold files names sources → AreRead sources → (k ≡ kind.Ended (pos 0)) ⊎ ((k ≡ kind.ReadFault) ⊎ (k ≡ kind.Memory))
+content_of : (o : Option (List ℕ)) → IsSome o → (b : List ℕ) × (o ≡ Some b)
+content_of None h = cc
+content_of (Some b) h = (b, refl)
 
-outside_files : (words : List (List ℕ)) (files : Files) → IsOutside words → FilesSo words files files kind.Usage
-outside_files words files none =
-    record {
-      same = λ h. refl;
-      written = λ of h. absurd h;
-      never = λ r h. cc;
-      no_file = λ h. cc;
-      if_missing = λ name is h. absurd (none is.0 is.1);
-      refused = λ r h. cc;
-      if_broken = λ ns ss r h b. absurd (none ns (named_by words ns ss r b));
-      accepted = λ ns code is h. absurd (none ns (inr is));
-      if_accepted = λ ns ss is h a. absurd (none ns (inr is));
-    }
+hold_more : (files : Files) (names sources : List (List ℕ)) (o : Option (List ℕ)) → Hold files names sources → IsThere files o → (contents : List (List ℕ)) × Hold files (names ++ input_file o) contents
+hold_more files names sources None h t = (sources, subst (λ l. Hold files l sources) (sym (append-nil names)) h)
+hold_more files names sources (Some file) h t = let b = content_of (files file) t in (sources ++ b.0 ∷ [], hold_one files names sources file b.0 h b.1)
 
--- where a file of the words is missing, they do not all hold sources
-never_held : {A : Type 0} (words others sources : List (List ℕ)) (files : Files) (name : List ℕ) → IsFileOf words name → files name ≡ None → NamesFiles words others → Hold files others sources → A
-never_held words others sources files name of none is h =
-    let there = held files others sources name h (subst (λ l. Contains l name) (one_list words of.0 others of.1 is) of.2) in
+input_there : (files : Files) (o : Option (List ℕ)) (input : List ℕ) → HoldInput files o input → IsThere files o
+input_there files None input h = tt
+input_there files (Some file) input h = subst IsSome (sym h) refl
+
+-- where a file that is read is missing, they are not all held
+never_held : {A : Type 0} (m : Meaning) (sources : List (List ℕ)) (files : Files) (name : List ℕ) → IsFileOf (Some m) name → files name ≡ None → Hold files m.files sources → IsThere files m.input → A
+never_held m sources files name of none h t =
+    let all = hold_more files m.files sources m.input h t in
+    let there = held files (files_read m) all.0 name all.1 (subst (λ z. Contains (files_read z) name) (one_asked (Some m) of.0 m of.1 refl) of.2) in
     no_content (files name) there.0 there.1 none
 
-missing_file : (words : List (List ℕ)) (files : Files) (file : List ℕ) → IsFileOf words file → files file ≡ None → FilesSo words files files kind.NoFile
-missing_file words files file of none =
+-- 4. A course over such a folder
+
+-- the C file holds the C of the sources that the files hold
+pub record HeldC (m : Meaning) (files after : Files) : Type 0 where
+  pub sources : List (List ℕ)
+  pub are_sources : Hold files m.files sources
+  pub c : List ℕ
+  pub compiled : IsCompiled sources m.strict_null c
+  pub holds : after (c_file m.name) ≡ Some c
+
+-- what a status says of the sources that the files hold
+pub record FilesSo (m : Meaning) (files after : Files) (k : Kind) : Type 0 where
+  pub same : WritesNothing k → after ≡ files
+  pub written : m.command ≡ command.Run → IsOfRun k → HeldC m files after
+  pub emitted : m.command ≡ command.Emit → (code : _) → k ≡ kind.Ended code → HeldC m files after
+  pub never : m.command ≡ command.Run → (r : CRefusal) → k ≢ kind.CRefused r
+  pub no_file : k ≡ kind.NoFile → (name : List ℕ) × IsFileOf (Some m) name × (files name ≡ None)
+  pub if_missing : (name : List ℕ) → IsFileOf (Some m) name → files name ≡ None → (k ≡ kind.NoFile) ⊎ ((k ≡ kind.ReadFault) ⊎ (k ≡ kind.Memory))
+  pub refused : (r : Refusal) → k ≡ kind.Refused r → (sources : List (List ℕ)) × Hold files m.files sources × IsRefusal m sources r
+  pub if_broken : (sources : List (List ℕ)) (r : Refusal) → Hold files m.files sources → IsThere files m.input → IsRefusal m sources r → RefusedUnless r k
+  pub accepted : (code : _) → m.command ≡ command.Check → k ≡ kind.Ended code → (sources : List (List ℕ)) × Hold files m.files sources × AreRead sources
+  pub if_accepted : (sources : List (List ℕ)) → m.command ≡ command.Check → Hold files m.files sources → IsThere files m.input → AreRead sources → (k ≡ kind.Ended (pos 0)) ⊎ ((k ≡ kind.ReadFault) ⊎ (k ≡ kind.Memory))
+
+missing_file : (m : Meaning) (files : Files) (file : List ℕ) → IsFileOf (Some m) file → files file ≡ None → FilesSo m files files kind.NoFile
+missing_file m files file of none =
     record {
       same = λ h. refl;
-      written = λ of h. absurd h;
-      never = λ r h. cc;
+      written = λ run h. absurd h;
+      emitted = λ em code h. cc;
+      never = λ run r h. cc;
       no_file = λ h. (file, of, none);
-      if_missing = λ name is2 h. inl refl;
+      if_missing = λ name is h. inl refl;
       refused = λ r h. cc;
-      if_broken = λ ms ss r h b. never_held words ms ss files file of none (named_by words ms ss r b) h;
-      accepted = λ ms code is2 h. cc;
-      if_accepted = λ ms ss is2 h a. never_held words ms ss files file of none (inr is2) h;
+      if_broken = λ ss r h t b. never_held m ss files file of none h t;
+      accepted = λ code is h. cc;
+      if_accepted = λ ss is h t a. never_held m ss files file of none h t;
     }
 
 -- a read that failed: the status says nothing of the files
-unread_files : (words : List (List ℕ)) (files after : Files) → FilesSo words files after kind.ReadFault
-unread_files words files after =
+unread_files : (m : Meaning) (files after : Files) → FilesSo m files after kind.ReadFault
+unread_files m files after =
     record {
       same = λ h. absurd h;
-      written = λ of h. absurd h;
-      never = λ r h. cc;
+      written = λ run h. absurd h;
+      emitted = λ em code h. cc;
+      never = λ run r h. cc;
       no_file = λ h. cc;
       if_missing = λ name is h. inr (inl refl);
       refused = λ r h. cc;
-      if_broken = λ ns ss r h b. inr (inl refl);
-      accepted = λ ns code is h. cc;
-      if_accepted = λ ns ss is h a. inr (inl refl);
+      if_broken = λ ss r h t b. inr (inl refl);
+      accepted = λ code is h. cc;
+      if_accepted = λ ss is h t a. inr (inl refl);
     }
 
-no_memory : (words : List (List ℕ)) (files after : Files) → FilesSo words files after kind.Memory
-no_memory words files after =
+no_memory : (m : Meaning) (files after : Files) → FilesSo m files after kind.Memory
+no_memory m files after =
     record {
       same = λ h. absurd h;
-      written = λ of h. absurd h;
-      never = λ r h. cc;
+      written = λ run h. absurd h;
+      emitted = λ em code h. cc;
+      never = λ run r h. cc;
       no_file = λ h. cc;
       if_missing = λ name is h. inr (inr refl);
       refused = λ r h. cc;
-      if_broken = λ ns ss r h b. inr (inr refl);
-      accepted = λ ns code is h. cc;
-      if_accepted = λ ns ss is h a. inr (inr refl);
+      if_broken = λ ss r h t b. inr (inr refl);
+      accepted = λ code is h. cc;
+      if_accepted = λ ss is h t a. inr (inr refl);
     }
 
--- their sources are these
-their_sources : (words names others sources ss : List (List ℕ)) (files : Files) → NamesFiles words names → NamesFiles words others → Hold files names sources → Hold files others ss → ss ≡ sources
-their_sources words names others sources ss files is is2 h k = one_holding files names ss sources (subst (λ l. Hold files l ss) (one_list words others names is2 is) k) h
+-- the files hold one list of sources
+their_sources : (m : Meaning) (files : Files) (s t : List (List ℕ)) → Hold files m.files s → Hold files m.files t → t ≡ s
+their_sources m files s t h k = one_holding files m.files t s k h
 
-broken_files : (words names sources : List (List ℕ)) (files : Files) (r : Refusal) → Hold files names sources → IsRefusal words names sources r → FilesSo words files files (kind.Refused r)
-broken_files words names sources files r h b =
-    let is = named_by words names sources r b in
+broken_files : (m : Meaning) (sources : List (List ℕ)) (files : Files) (r : Refusal) → Hold files m.files sources → IsThere files m.input → IsRefusal m sources r → FilesSo m files files (kind.Refused r)
+broken_files m sources files r h t b =
     record {
       same = λ x. refl;
-      written = λ of x. absurd x;
-      never = λ q x. cc;
+      written = λ run x. absurd x;
+      emitted = λ em code x. cc;
+      never = λ run q x. cc;
       no_file = λ x. cc;
-      if_missing = λ name of none. never_held words names sources files name of none is h;
-      refused = λ q x. (let e : r ≡ q = same_rule r q x in (names, sources, h, subst (IsRefusal words names sources) e b));
-      if_broken = λ ns ss q k b2. (
-          let e = their_sources words names ns sources ss files is (named_by words ns ss q b2) h k in
-          inl (ap kind.Refused (one_refusal words names ns sources r q b (subst (λ l. IsRefusal words ns l q) e b2)))
-          );
-      accepted = λ ns code is2 x. cc;
-      if_accepted = λ ns ss is2 k a. (
-          let e = their_sources words names ns sources ss files is (inr is2) h k in
-          never_accepted words ns names sources r is2 (subst AreRead e a) b
-          );
+      if_missing = λ name of none. never_held m sources files name of none h t;
+      refused = λ q x. (let e : r ≡ q = same_rule r q x in (sources, h, subst (IsRefusal m sources) e b));
+      if_broken = λ ss q k t2 b2. (let e = their_sources m files sources ss h k in inl (ap kind.Refused (one_refusal m sources r q b (subst (λ l. IsRefusal m l q) e b2))));
+      accepted = λ code is x. cc;
+      if_accepted = λ ss is k t2 a. (let e = their_sources m files sources ss h k in never_accepted m sources r is (subst AreRead e a) b);
     }
   where
     same_rule : (r q : Refusal) → kind.Refused r ≡ kind.Refused q → r ≡ q
     same_rule r q e = cc
 
-accepted_files : (words names sources : List (List ℕ)) (files : Files) → IsCheck words names → Hold files names sources → AreRead sources → FilesSo words files files (kind.Ended (pos 0))
-accepted_files words names sources files is h a =
+accepted_files : (m : Meaning) (sources : List (List ℕ)) (files : Files) → m.command ≡ command.Check → Hold files m.files sources → IsThere files m.input → AreRead sources → FilesSo m files files (kind.Ended (pos 0))
+accepted_files m sources files is h t a =
     record {
       same = λ x. absurd x;
-      written = λ of x. one_command words of.0 names of.1 is;
-      never = λ q x. cc;
+      written = λ run x. run_checks m.command run is;
+      emitted = λ em code x. check_emits m.command is em;
+      never = λ run q x. cc;
       no_file = λ x. cc;
-      if_missing = λ name of none. never_held words names sources files name of none (inr is) h;
+      if_missing = λ name of none. never_held m sources files name of none h t;
       refused = λ q x. cc;
-      if_broken = λ ns ss q k b2. (
-          let e = their_sources words names ns sources ss files (inr is) (named_by words ns ss q b2) h k in
-          never_accepted words names ns sources q is a (subst (λ l. IsRefusal words ns l q) e b2)
-          );
-      accepted = λ ns code is2 x. (sources, subst (λ l. Hold files l sources) (one_list words names ns (inr is) (inr is2)) h, a);
-      if_accepted = λ ns ss is2 k b. inl refl;
+      if_broken = λ ss q k t2 b2. (let e = their_sources m files sources ss h k in never_accepted m sources q is a (subst (λ l. IsRefusal m l q) e b2));
+      accepted = λ code is2 x. (sources, h, a);
+      if_accepted = λ ss is2 k t2 b. inl refl;
     }
 
 -- the sources were compiled
-built_files : (words names : List (List ℕ)) (reads : List Call) (c : List ℕ) (files after : Files) (k : Kind) → (b : IsBuilt words names reads c) → Hold files names b.sources → (WritesNothing k → ⊥) → (IsOfRun k → after (c_file names) ≡ Some c)
-    → ((r : CRefusal) → k ≢ kind.CRefused r) → k ≢ kind.NoFile → ((r : Refusal) → k ≢ kind.Refused r) → FilesSo words files after k
-built_files words names reads c files after k b h writes there never not_missing not_refused =
+built_files : (m : Meaning) (input : List ℕ) (reads : List Call) (c : List ℕ) (files after : Files) (k : Kind) → (b : IsBuilt m input reads c) → Hold files m.files b.sources → IsThere files m.input → (WritesNothing k → ⊥) → (m.command ≡ command.Run → IsOfRun k → after (c_file m.name) ≡ Some c)
+    → (m.command ≡ command.Emit → (code : _) → k ≡ kind.Ended code → after (c_file m.name) ≡ Some c) → ((r : CRefusal) → k ≢ kind.CRefused r) → k ≢ kind.NoFile → ((r : Refusal) → k ≢ kind.Refused r) → FilesSo m files after k
+built_files m input reads c files after k b h t some there emits never not_missing not_refused =
     record {
-      same = λ x. absurd (writes x);
-      written = λ of x. record { names = names; is_run = b.is_run; sources = b.sources; are_sources = h; c = c; compiled = b.compiled; holds = there x };
-      never = never;
+      same = λ x. absurd (some x);
+      written = λ run x. record { sources = b.sources; are_sources = h; c = c; compiled = b.compiled; holds = there run x };
+      emitted = λ em code x. record { sources = b.sources; are_sources = h; c = c; compiled = b.compiled; holds = emits em code x };
+      never = λ run. never;
       no_file = λ x. absurd (not_missing x);
-      if_missing = λ name of none. never_held words names b.sources files name of none (inl b.is_run) h;
+      if_missing = λ name of none. never_held m b.sources files name of none h t;
       refused = λ r x. absurd (not_refused r x);
-      if_broken = λ ns ss q l b2. (
-          let e = their_sources words names ns b.sources ss files (inl b.is_run) (named_by words ns ss q b2) h l in
-          never_built words names ns b.sources c q b.is_run b.compiled (subst (λ l. IsRefusal words ns l q) e b2)
-          );
-      accepted = λ ns code is x. one_command words names ns b.is_run is;
-      if_accepted = λ ns ss is x a. one_command words names ns b.is_run is;
+      if_broken = λ ss q l t2 b2. (let e = their_sources m files b.sources ss h l in never_built m b.sources c q b.writes b.compiled (subst (λ l. IsRefusal m l q) e b2));
+      accepted = λ code is x. check_writes m.command is b.writes;
+      if_accepted = λ ss is x t2 a. check_writes m.command is b.writes;
     }
+
+-- what `exec` reads is all held, and its status tells nothing more of the files
+exec_files : (m : Meaning) (sources : List (List ℕ)) (files after : Files) (k : Kind) → m.command ≡ command.Exec → Hold files m.files sources → IsThere files m.input → (WritesNothing k → ⊥) → k ≢ kind.NoFile → ((r : Refusal) → k ≢ kind.Refused r) → FilesSo m files after k
+exec_files m sources files after k exec h t some not_missing not_refused =
+    record {
+      same = λ x. absurd (some x);
+      written = λ run x. run_executes m.command run exec;
+      emitted = λ em code x. emit_executes m.command em exec;
+      never = λ run. run_executes m.command run exec;
+      no_file = λ x. absurd (not_missing x);
+      if_missing = λ name of none. never_held m sources files name of none h t;
+      refused = λ r x. absurd (not_refused r x);
+      if_broken = λ ss q l t2 b. absurd (no_rule q ss b);
+      accepted = λ code is x. absurd (no_check is);
+      if_accepted = λ ss is x t2 a. absurd (no_check is);
+    }
+  where
+    no_check : m.command ≡ command.Check → ⊥
+    no_check is = (let e : command.Check ≡ command.Exec = sym is ∙ exec in cc)
+
+    no_rule : (q : Refusal) (ss : List (List ℕ)) → IsRefusal m ss q → ⊥
+    no_rule q ss (course.compiled rest w b) = exec_writes m.command exec w
+    no_rule q ss (course.checked is b) = no_check is
 
 run_writes : {A : Type 0} (k : Kind) → IsOfRun k ⊎ (k ≡ kind.Memory) → WritesNothing k → A
 run_writes kind.Usage (inl a) x = absurd a
@@ -367,75 +332,171 @@ run_writes k (inl a) x = absurd x
 same_after : (o : Option Files) (a b : Files) → o ≡ Some a → o ≡ Some b → b ≡ a
 same_after o a b e h = cc
 
-pub goes_files : OneAnswer → (words : List (List ℕ)) (files after : Files) (f g : FolderView) (o e : SinkView) (calls : List Call) (o' e' : SinkView) (k : Kind) (named source : List ℕ) → After f files → After g after → Chain f calls g → Goes words o e calls o' e' k named source
-    → FilesSo words files after k
-goes_files one words files after f g o e calls o' e' k named source is there chain (course.usage n s none) =
-    let same = same_after g.files files after (subst (λ x. After x files) (no_call_more f g chain) is) there in
-    subst (λ a. FilesSo words files a kind.Usage) (sym same) (outside_files words files none)
-goes_files one words files after f g o e calls o' e' k named source is there chain (course.no_file ns file rs n up) =
-    let r = read_up_to f g files up.front up.sources file (Err fault.Missing) rs up.all_read is chain in
-    subst (λ a. FilesSo words files a kind.NoFile) (sym (same_after g.files files after r.told there)) (missing_file words files file (is_file words ns up.front file up.behind n up.files_are) r.honest)
-goes_files one words files after f g o e calls o' e' k named source is there chain (course.unread ns file rs n up) = unread_files words files after
-goes_files one words files after f g o e calls o' e' k named source is there chain (course.refused ns ss rs r all b) =
-    let t = reads_told f g files ns ss rs all is chain in
-    subst (λ a. FilesSo words files a (kind.Refused r)) (sym (same_after g.files files after t.0 there)) (broken_files words ns ss files r t.1 b)
-goes_files one words files after f g o e calls o' e' k named source is there chain (course.accepted ns ss rs n s c all a) =
-    let t = reads_told f g files ns ss rs all is chain in
-    subst (λ a. FilesSo words files a (kind.Ended (pos 0))) (sym (same_after g.files files after t.0 there)) (accepted_files words ns ss files c t.1 a)
-goes_files one words files after f g o e calls o' e' k named source is there chain (course.unwritten ns rs c h) =
-    let w = read_and_write f g files ns h.sources c (Err fault.Failed) rs h.all_read is chain in
-    built_files words ns rs c files after kind.WriteFault h w.holds (λ x. x) (λ x. absurd x) (λ r x. cc) (λ x. cc) (λ r x. cc)
-goes_files one words files after f g o e calls o' e' k named source is there chain (course.gone ns rs c h) =
-    let w = all_calls f g files ns h.sources c (Err fault.Missing) rs h.all_read is chain in no_content (w.after (c_file ns)) c w.written w.honest
-goes_files one words files after f g o e calls o' e' k named source is there chain (course.unread_back ns rs c h) = unread_files words files after
-goes_files one words files after f g o e calls o' e' k named source is there chain (course.c_refused ns rs c b r h a) =
-    let w = all_calls f g files ns h.sources c (Ok b) rs h.all_read is chain in
-    never_refused one h.sources c b r h.compiled (one_content (w.after (c_file ns)) b c w.honest w.written) a
-goes_files one words files after f g o e calls o' e' k named source is there chain (course.ran ns rs c b unit p q l n t h a r) =
-    let w = all_calls f g files ns h.sources c (Ok b) rs h.all_read is chain in
-    let of = (ran_so unit (world_of ns) o o' e e' k r).is_of_run in
+-- C is refused or runs: what was written holds the C, and is never refused
+c_refused_files : OneAnswer → (m : Meaning) (files after : Files) (f g : FolderView) (calls : List Call) (input file b : List ℕ) (limit : ℕ) (r : CRefusal) → After f files → Chain f calls g → HasC m calls input file b limit → Answers b limit (Err r) → FilesSo m files after (kind.CRefused r)
+c_refused_files one m files after f g _ input _ b _ r is chain (course.back rs _ c _ run h) a =
+    let w = back_told f g files m h.sources input c (Ok b) rs h.all_given is chain in
+    never_refused one m h.sources c b r h.compiled (one_content (w.after (c_file m.name)) b c w.honest w.written) a
+c_refused_files one m files after f g calls input file b _ r is chain (course.given _ _ _ _ exec alone all) a =
+    let t = given_told f g files m (b ∷ []) input calls all is chain in
+    exec_files m (b ∷ []) files after (kind.CRefused r) exec t.holds (input_there files m.input input t.is_input) (λ x. x) (λ x. cc) (λ q x. cc)
+
+ran_files : (m : Meaning) (files after : Files) (f g : FolderView) (calls : List Call) (input file b : List ℕ) (limit : ℕ) (k : Kind) → IsOfRun k ⊎ (k ≡ kind.Memory) → After f files → After g after → Chain f calls g → HasC m calls input file b limit → FilesSo m files after k
+ran_files m files after f g _ input _ b _ k of is there chain (course.back rs _ c _ run h) =
+    let w = back_told f g files m h.sources input c (Ok b) rs h.all_given is chain in
     let same = same_after g.files w.after after w.told there in
-    built_files words ns rs c files after k h w.holds (λ x. run_writes k of x) (λ x. ap (λ (fs : Files). fs (c_file ns)) same ∙ w.written)
-    (λ q. not_of_run k (kind.CRefused q) of (λ y. y) (λ y. cc)) (not_of_run k kind.NoFile of (λ y. y) (λ y. cc)) (λ q. not_of_run k (kind.Refused q) of (λ y. y) (λ y. cc))
-goes_files one words files after f g o e calls o' e' k named source is there chain (course.memory cs n s p) = no_memory words files after
+    let holds = ap (λ (fs : Files). fs (c_file m.name)) same ∙ w.written in
+    built_files m input rs c files after k h w.holds (input_there files m.input input w.is_input) (λ x. run_writes k of x) (λ q x. holds) (λ em code x. run_emits m.command run em) (λ q. not_of_run k (kind.CRefused q) of (λ y. y) (λ y. cc))
+    (not_of_run k kind.NoFile of (λ y. y) (λ y. cc)) (λ q. not_of_run k (kind.Refused q) of (λ y. y) (λ y. cc))
+ran_files m files after f g calls input file b _ k of is there chain (course.given _ _ _ _ exec alone all) =
+    let t = given_told f g files m (b ∷ []) input calls all is chain in
+    exec_files m (b ∷ []) files after k exec t.holds (input_there files m.input input t.is_input) (λ x. run_writes k of x) (not_of_run k kind.NoFile of (λ y. y) (λ y. cc)) (λ q. not_of_run k (kind.Refused q) of (λ y. y) (λ y. cc))
 
--- 6. The clause
+pub goes_files : OneAnswer → (m : Meaning) (files after : Files) (f g : FolderView) (o e : SinkView) (calls : List Call) (o' e' : SinkView) (x : Outcome) → After f files → After g after → Chain f calls g → Goes m o e calls o' e' x → FilesSo m files after x.kind
+goes_files one m files after f g o e calls o' e' _ is there chain (course.no_file file rs up) =
+    let r = read_up_to f g files up.front up.sources file (Err fault.Missing) rs up.all_read is chain in
+    subst (λ a. FilesSo m files a kind.NoFile) (sym (same_after g.files files after r.told there)) (missing_file m files file (is_file (Some m) m up.front file up.behind refl up.files_are) r.honest)
+goes_files one m files after f g o e calls o' e' _ is there chain (course.unread file rs up) = unread_files m files after
+goes_files one m files after f g o e calls o' e' _ is there chain (course.refused ss i rs r all b) =
+    let t = given_told f g files m ss i rs all is chain in
+    subst (λ a. FilesSo m files a (kind.Refused r)) (sym (same_after g.files files after t.told there)) (broken_files m ss files r t.holds (input_there files m.input i t.is_input) b)
+goes_files one m files after f g o e calls o' e' _ is there chain (course.accepted ss i rs c all a) =
+    let t = given_told f g files m ss i rs all is chain in
+    subst (λ a. FilesSo m files a (kind.Ended (pos 0))) (sym (same_after g.files files after t.told there)) (accepted_files m ss files c t.holds (input_there files m.input i t.is_input) a)
+goes_files one m files after f g o e calls o' e' _ is there chain (course.unwritten i rs c h) =
+    let w = wrote_told f g files m h.sources i c (Err fault.Failed) rs h.all_given is chain in
+    built_files m i rs c files after kind.WriteFault h w.holds (input_there files m.input i w.is_input) (λ x. x) (λ run x. absurd x) (λ em code x. cc) (λ r x. cc) (λ x. cc) (λ r x. cc)
+goes_files one m files after f g o e calls o' e' _ is there chain (course.emitted i rs c em h) =
+    let w = wrote_told f g files m h.sources i c (Ok tt) rs h.all_given is chain in
+    let same = same_after g.files w.after after w.told there in
+    let holds = ap (λ (fs : Files). fs (c_file m.name)) same ∙ w.writes.written refl in
+    built_files m i rs c files after (kind.Ended (pos 0)) h w.holds (input_there files m.input i w.is_input) (λ x. x) (λ run x. run_emits m.command run em) (λ em2 code x. holds) (λ r x. cc) (λ x. cc) (λ r x. cc)
+goes_files one m files after f g o e calls o' e' _ is there chain (course.gone i rs c run h) =
+    let w = back_told f g files m h.sources i c (Err fault.Missing) rs h.all_given is chain in no_content (w.after (c_file m.name)) c w.written w.honest
+goes_files one m files after f g o e calls o' e' _ is there chain (course.unread_back i rs c run h) = unread_files m files after
+goes_files one m files after f g o e calls o' e' _ is there chain (course.c_refused cs i f2 b l r h a) = c_refused_files one m files after f g calls i f2 b l r is chain h a
+goes_files one m files after f g o e calls o' e' _ is there chain (course.ran cs i f2 b l unit p q k texts muted h a r) =
+    ran_files m files after f g calls i f2 b l k (ran_so m unit (world_of m i) o o' e e' k texts muted r).is_of_run is there chain h
+goes_files one m files after f g o e calls o' e' _ is there chain (course.memory cs p) = no_memory m files after
 
--- what a status of another answer than this leaves open
-unless_memory : (answer : Kind) (named source : List ℕ) (e e' : SinkView) (k l m : Kind) → Told answer named source e e' k → (answer ≡ l) ⊎ ((answer ≡ m) ⊎ (answer ≡ kind.Memory)) → (k ≡ l) ⊎ ((k ≡ m) ⊎ (k ≡ kind.Memory))
-unless_memory answer named source e e' k l m (inl t) (inl is) = inl (t.0 ∙ is)
-unless_memory answer named source e e' k l m (inl t) (inr (inl is)) = inr (inl (t.0 ∙ is))
-unless_memory answer named source e e' k l m (inl t) (inr (inr is)) = inr (inr (t.0 ∙ is))
-unless_memory answer named source e e' k l m (inr none) is = inr (inr none)
+-- 5. The clause
 
-nothing_answered : (answer : Kind) (named source : List ℕ) (e e' : SinkView) (k : Kind) → Told answer named source e e' k → WritesNothing k → WritesNothing answer
-nothing_answered answer named source e e' k (inl t) r = subst WritesNothing t.0 r
-nothing_answered answer named source e e' k (inr m) r = absurd (subst WritesNothing m r)
+-- what is left behind a call on any words
+pub record CallLeft (asked : Option Meaning) (files : Files) (g : FolderView) (calls : List Call) (k : Kind) : Type 0 where
+  pub after : Files
+  pub told : After g after
+  pub others : (name : List ℕ) → (IsCFile asked name → ⊥) → after name ≡ files name
+  pub kept : (m : Meaning) → asked ≡ Some m → (writes m.command ≡ true → ⊥) → after ≡ files
+  pub honest : AllByRecursion (IsHonest asked files after) (entries calls)
+  pub so : (m : Meaning) → asked ≡ Some m → FilesSo m files after k
+  pub same : WritesNothing k → after ≡ files
 
-pub told_files : OneAnswer → (words : List (List ℕ)) (f f' : FolderView) (o o' e e' : SinkView) (status : Status) → IsCall words f f' o o' e e' status → FilesTold words f f' status
-told_files one words f f' o o' e e' status call =
-    λ files is.
-    let plan = plan_so words files f f' call.calls is call.chain (goes_planned words o e call.calls o' call.middle call.answer call.named call.source call.goes) in
-    let s = goes_files one words files plan.after f f' o e call.calls o' call.middle call.answer call.named call.source is plan.told call.chain call.goes in
-    let end = told call.answer call.named call.source call.middle e' status call.finishes in
-    let was = answered call.answer call.named call.source call.middle e' status.kind in
-    let unless = unless_memory call.answer call.named call.source call.middle e' status.kind in
+call_left : OneAnswer → (asked : Option Meaning) (files : Files) (f g : FolderView) (o e : SinkView) (calls : List Call) (o' e' : SinkView) (x : Outcome) → After f files → Chain f calls g → GoesBy o e asked calls o' e' x → CallLeft asked files g calls x.kind
+call_left one _ files f g o e _ _ _ _ is chain course.usage =
+    record { after = files; told = subst (λ x. After x files) (no_call_more f g chain) is; others = λ name x. refl; kept = λ m x y. refl; honest = tt; so = λ m x. none_asked None m refl x; same = λ x. refl }
+call_left one asked files f g o e _ _ _ _ is chain (course.no_memory _) =
+    record { after = files; told = subst (λ x. After x files) (no_call_more f g chain) is; others = λ name x. refl; kept = λ m x y. refl; honest = tt; so = λ m x. no_memory m files files; same = λ x. refl }
+call_left one _ files f g o e calls o' e' x is chain (course.asked m _ _ _ _ goes) =
+    let plan = plan_so m files f g calls is chain (goes_planned m o e calls o' e' x goes) in
+    let s = goes_files one m files plan.after f g o e calls o' e' x is plan.told chain goes in
     record {
       after = plan.after;
       told = plan.told;
+      others = plan.others;
+      kept = λ n y z. plan.kept (subst (λ v. (writes v.command ≡ true → ⊥)) (one_asked (Some m) n m y refl) z);
+      honest = plan.honest;
+      so = λ n y. subst (λ v. FilesSo v files plan.after x.kind) (one_asked (Some m) m n refl y) s;
+      same = s.same;
+    }
+
+-- what a status of another answer than these leaves open
+unless_memory : (x : Outcome) (e e' : SinkView) (k l : Kind) → Told x e e' k → unheard l ≡ l → (x.kind ≡ l) ⊎ ((x.kind ≡ kind.ReadFault) ⊎ (x.kind ≡ kind.Memory)) → (k ≡ l) ⊎ ((k ≡ kind.ReadFault) ⊎ (k ≡ kind.Memory))
+unless_memory x e e' _ l (causes.line m t) un h = h
+unless_memory x e e' _ l (causes.mute m) un h = h
+unless_memory x e e' _ l (causes.rose n lt r) un (inl is) = inl (ap unheard is ∙ un)
+unless_memory x e e' _ l (causes.rose n lt r) un (inr (inl is)) = inr (inl (ap unheard is))
+unless_memory x e e' _ l (causes.rose n lt r) un (inr (inr is)) = inr (inr (ap unheard is))
+unless_memory x e e' _ l causes.no_memory un h = inr (inr refl)
+
+plain_unless : (x : Outcome) (k l : Kind) → (k ≡ x.kind) ⊎ (k ≡ kind.Memory) → (x.kind ≡ l) ⊎ ((x.kind ≡ kind.ReadFault) ⊎ (x.kind ≡ kind.Memory)) → (k ≡ l) ⊎ ((k ≡ kind.ReadFault) ⊎ (k ≡ kind.Memory))
+plain_unless x k l (inl a) (inl b) = inl (a ∙ b)
+plain_unless x k l (inl a) (inr (inl b)) = inr (inl (a ∙ b))
+plain_unless x k l (inl a) (inr (inr b)) = inr (inr (a ∙ b))
+plain_unless x k l (inr a) b = inr (inr a)
+
+nothing_heard : (k : Kind) → WritesNothing (unheard k) → WritesNothing k
+nothing_heard (kind.Ended code) h = absurd h
+nothing_heard kind.Usage h = h
+nothing_heard kind.NoFile h = h
+nothing_heard kind.ReadFault h = h
+nothing_heard kind.WriteFault h = h
+nothing_heard kind.OutFault h = h
+nothing_heard (kind.Refused r) h = h
+nothing_heard (kind.CRefused r) h = h
+nothing_heard kind.StepsSpent h = h
+nothing_heard kind.Waiting h = h
+nothing_heard (kind.Trapped t) h = h
+nothing_heard kind.Dead h = h
+nothing_heard (kind.Undefined d) h = h
+nothing_heard kind.Memory h = h
+
+nothing_answered : (x : Outcome) (e e' : SinkView) (k : Kind) → Told x e e' k → WritesNothing k → WritesNothing x.kind
+nothing_answered x e e' _ (causes.line m t) h = h
+nothing_answered x e e' _ (causes.mute m) h = h
+nothing_answered x e e' _ (causes.rose n lt r) h = nothing_heard x.kind h
+nothing_answered x e e' _ causes.no_memory h = absurd h
+
+check_kept : (c : Command) → c ≡ command.Check → writes c ≡ true → ⊥
+check_kept c is w = check_writes c is w
+
+exec_kept : (c : Command) → c ≡ command.Exec → writes c ≡ true → ⊥
+exec_kept c is w = exec_writes c is w
+
+holds_c : (asked : Option Meaning) (m : Meaning) (files after : Files) → asked ≡ Some m → HeldC m files after → HoldsC asked files after
+holds_c asked m files after is h = record { meaning = m; is_asked = is; sources = h.sources; are_sources = h.are_sources; c = h.c; compiled = h.compiled; holds = h.holds }
+
+pub told_files : OneAnswer → (asked : Option Meaning) (f f' : FolderView) (o o' e e' : SinkView) (status : Status) → IsCall asked f f' o o' e e' status → FilesTold asked f f' status
+told_files one asked f f' o o' e e' status call =
+    λ files is.
+    let x = call.outcome in
+    let so = call_so asked o e call.calls o' call.middle x call.goes in
+    let left = call_left one asked files f f' o e call.calls o' call.middle x is call.chain call.goes in
+    let end = told x call.middle e' status call.finishes in
+    let was = answered x call.middle e' status.kind in
+    let unless = unless_memory x call.middle e' status.kind in
+    let by = asked_by asked o e call.calls o' call.middle x call.goes in
+    let ended = λ (code : _) (h : status.kind ≡ kind.Ended code). was (kind.Ended code) end h (λ y. cc) (λ y. cc) in
+    record {
+      after = left.after;
+      told = left.told;
       added = entries call.calls;
       told_calls = chain_told f call.calls f' call.chain;
-      honest = All-from_recursion (IsHonest words files plan.after) (entries call.calls) plan.honest;
-      planned = entries_planned words call.calls (goes_planned words o e call.calls o' call.middle call.answer call.named call.source call.goes);
-      others = plan.others;
-      same = λ h. s.same (nothing_answered call.answer call.named call.source call.middle e' status.kind end h);
-      checked = plan.checked;
-      written = λ of h. s.written of (run_answered call.answer call.named call.source call.middle e' status.kind end h);
-      never_c_refused = λ r h. s.never r (was (kind.CRefused r) end h (λ x. cc));
-      no_file = λ h. s.no_file (was kind.NoFile end h (λ x. cc));
-      if_missing = λ name of none. unless kind.NoFile kind.ReadFault end (s.if_missing name of none);
-      refused = λ r h. s.refused r (was (kind.Refused r) end h (λ x. cc));
-      if_broken = λ ns ss r h b. unless (kind.Refused r) kind.ReadFault end (s.if_broken ns ss r h b);
-      accepted = λ ns code is2 h. s.accepted ns code is2 (was (kind.Ended code) end h (λ x. cc));
-      if_accepted = λ ns ss is2 h a. unless (kind.Ended (pos 0)) kind.ReadFault end (s.if_accepted ns ss is2 h a);
+      honest = All-from_recursion (IsHonest asked files left.after) (entries call.calls) left.honest;
+      planned = λ m y. entries_planned m call.calls (so.planned m y);
+      others = left.others;
+      same = λ h. left.same (nothing_answered x call.middle e' status.kind end h);
+      checked = λ of. left.kept of.0 of.1 (check_kept of.0.command of.2);
+      executed = λ of. left.kept of.0 of.1 (exec_kept of.0.command of.2);
+      written = λ of h. holds_c asked of.0 files left.after of.1 ((left.so of.0 of.1).written of.2 (run_answered x call.middle e' status.kind end h));
+      emitted = λ of code h. holds_c asked of.0 files left.after of.1 ((left.so of.0 of.1).emitted of.2 code (ended code h));
+      never_c_refused = λ of r h. (left.so of.0 of.1).never of.2 r (was (kind.CRefused r) end h (λ y. cc) (λ y. cc));
+      no_file = λ h. (
+          let a = was kind.NoFile end h (λ y. cc) (λ y. cc) in
+          let n = by (other_kind kind.NoFile kind.Usage x.kind a (λ y. cc)) (other_kind kind.NoFile kind.Memory x.kind a (λ y. cc)) in
+          let y = (left.so n.0 n.1).no_file a in
+          (y.0, subst (λ z. IsFileOf z y.0) (sym n.1) y.1, y.2)
+          );
+      if_missing = λ name of none. unless kind.NoFile end refl ((left.so of.0 of.1).if_missing name (of.0, refl, of.2) none);
+      refused = λ r h. (
+          let a = was (kind.Refused r) end h (λ y. cc) (λ y. cc) in
+          let n = by (other_kind (kind.Refused r) kind.Usage x.kind a (λ y. cc)) (other_kind (kind.Refused r) kind.Memory x.kind a (λ y. cc)) in
+          let y = (left.so n.0 n.1).refused r a in
+          (n.0, y.0, n.1, y.1, y.2)
+          );
+      if_broken = λ m ss r y h t b. unless (kind.Refused r) end refl ((left.so m y).if_broken ss r h t b);
+      accepted = λ m code y c h. (left.so m y).accepted code c (ended code h);
+      if_accepted = λ m ss y c h t a. plain_unless x status.kind (kind.Ended (pos 0)) (plain_status x call.middle e' status.kind end (so.on_words.plain (no_c_checked asked (m, y, c)))) ((left.so m y).if_accepted ss c h t a);
     }
+  where
+    other_kind : (l other k : Kind) → k ≡ l → l ≢ other → k ≢ other
+    other_kind l other k is not e = not (sym is ∙ e)

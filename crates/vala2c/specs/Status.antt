@@ -1,5 +1,5 @@
 -- The statuses: their exit bytes and their message lines.
-use Rattle.std.specs.Prelude.{ℕ, ◌+◌, ◌==◌, List, [], ◌∷◌, ◌++◌, length, take, count_by, codes, pos, unsigned_abs}
+use Rattle.std.specs.Prelude.{ℕ, ◌+◌, ◌==◌, List, [], ◌∷◌, ◌++◌, length, take, count_by, codes, pos, unsigned_abs, Option, Some, None}
 use Rattle.std.specs.List.{after_last}
 use Rattle.std.specs.Int.{int_rem_euclid}
 use Rattle.std.specs.Fmt.{decimal}
@@ -9,6 +9,8 @@ use Rattle.vg_base.specs.declared.event.UndefKind.{UndefKind}
 use Rattle.vg_base.specs.declared.event.UndefKind.TheVariants as undef
 use Rattle.vg_base.specs.declared.event.CEnd.{CEnd}
 use Rattle.vg_base.specs.declared.event.CEnd.TheVariants as c
+use Rattle.command_line.specs.declared.choice.Command.{Command}
+use Rattle.command_line.specs.declared.choice.Command.TheVariants as command
 use Rattle.c_tree.specs.declared.kinds.Cause.{Cause}
 use Rattle.c_tree.specs.declared.kinds.Cause.TheVariants.{Token, Syntax, Undeclared, Misfit, Twice, Large}
 use Rattle.c_tree.specs.declared.kinds.Refusal.{Refusal as CRefusal}
@@ -119,13 +121,23 @@ exit_byte kind.Dead = 23
 exit_byte (kind.Undefined k) = 24
 exit_byte kind.Memory = 30
 
--- the status of a run of the compiled C that ends so
-abbrev pub kind_of_end : CEnd → Kind
-kind_of_end (c.Ended code) = kind.Ended code
-kind_of_end (c.Aborted k) = kind.Trapped k
-kind_of_end c.Waiting = kind.Waiting
-kind_of_end (c.Undefined undef.Freed) = kind.Dead
-kind_of_end (c.Undefined k) = kind.Undefined k
+-- the status of what has no meaning: a use of what is gone is told apart, but of a C file that is given
+abbrev pub kind_of_undefined : Command → UndefKind → Kind
+kind_of_undefined command.Exec undef.Freed = kind.Undefined undef.Freed
+kind_of_undefined c undef.Freed = kind.Dead
+kind_of_undefined c k = kind.Undefined k
+
+-- the status of a run of C that ends so
+abbrev pub kind_of_end : Command → CEnd → Kind
+kind_of_end command (c.Ended code) = kind.Ended code
+kind_of_end command (c.Aborted k) = kind.Trapped k
+kind_of_end command c.Waiting = kind.Waiting
+kind_of_end command (c.Undefined k) = kind_of_undefined command k
+
+-- the same of a run that ended so or spent its steps
+abbrev pub kind_of_run : Command → Option CEnd → Kind
+kind_of_run command None = kind.StepsSpent
+kind_of_run command (Some end) = kind_of_end command end
 
 -- A message line that could not be put changes no answer but that of a program that ended.
 abbrev pub unheard : Kind → Kind

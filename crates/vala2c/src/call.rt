@@ -1,33 +1,31 @@
 // One call of the program: from its words, over the folder and the sinks, to its status.
 
-ghost use Rattle.std.specs.Prelude.{◌≡◌, map, true, [], List, ℕ, get_or};
+ghost use Rattle.std.specs.Prelude.{◌≡◌, map, true, List};
 ghost use Rattle.std.specs.String.{string_bytes};
-ghost use Rattle.vg_base.specs.World.{IsName};
-ghost use Rattle.vg_base.specs.Outside.{SinkView};
-ghost use Rattle.c_resolver.specs.Routines.{items_have_code};
-ghost use Rattle.vala2c.specs.Words.{IsCheck, IsRun, c_file, first_of, name_of};
+ghost use Rattle.vg_base.specs.declared.outside.Call.{Call};
+ghost use Rattle.vg_base.specs.Outside.{FolderView, SinkView};
+ghost use Rattle.command_line.specs.Answers.{meaning_of};
+ghost use Rattle.command_line.specs.Laws.{IsInBounds};
+ghost use Rattle.command_line.specs.Meaning.{asked_of, writes};
+ghost use Rattle.command_line.specs.Names.{c_file};
 ghost use Rattle.vala2c.specs.Causes.{Causes, FilesTold, ProgramTold, ToldCalls};
-ghost use Rattle.vala2c.specs.Course.{CallBy, Closes, Finishes, Goes, IsCall, Ran};
+ghost use Rattle.vala2c.specs.Course.{CallBy, Chain, Goes, IsBuilt, IsCall, most_bytes, world_of};
 ghost use Rattle.vala2c.specs.Stages.{BackCalls, Stage, Written, write_kind};
 
-use crate::sources::{kind_of_read, read_files, source_at, word_at};
-use crate::status::{Kind, Status, kind_of, message, when_unheard};
-use crate::words::{c_file_of, files_of, first_word, name_in, none_is};
-use c_calls::units_have_code;
+use crate::finish::{Outcome, finish, finish_outcome, finish_refused};
+use crate::running::run_c;
+use crate::sources::{kind_of_read, read_given, source_at, word_at};
+use crate::status::{Kind, Status};
+use crate::texts::c_file_of;
 use c_emit::programs_are_quiet;
 use c_grammar::bytes_have_one_answer;
-use c_interpreter::{RunEnd, RunFault, load};
-use c_text_reader::read;
-use c_tree::Unit as CUnit;
-use static_rules::Refusal;
+use command_line::{Asked, Command, read_words, words_ask_in_bounds};
 use std::alloc::Global;
 use vala_compile::{check, compile};
-use vg_base::{Fault, Folder, FolderFault, PutFault, Sink, put_all};
+use vg_base::{Fault, Folder, FolderFault, Sink};
 
-/// How many steps a run may have.
-const BUDGET: u64 = 10_000_000;
-
-const MEMORY_LINE: &[u8] = b"vala2c: out of memory\n";
+/// The most bytes of C that `exec` reads.
+const MOST_C_BYTES: u64 = 67_108_864;
 
 /// One call of the program. Its status tells what it came to; only want of memory may stand in place of any other.
 pub fn vala2c<F: Folder, O: Sink, E: Sink>(
@@ -37,14 +35,15 @@ pub fn vala2c<F: Folder, O: Sink, E: Sink>(
     out: &mut O,
     err: &mut E,
 ) -> Status
-    ensures call { IsCall (map string_bytes words.now) (F.seen folder.old) (F.seen folder.new) (O.seen out.old) (O.seen out.new) (E.seen err.old) (E.seen err.new) result }
-    ensures causes { Causes (map string_bytes words.now) (F.seen folder.old) (F.seen folder.new) (O.seen out.old) (O.seen out.new) (E.seen err.old) (E.seen err.new) result }
-    ensures told_calls { ToldCalls (map string_bytes words.now) (F.seen folder.old) (F.seen folder.new) (E.seen err.old) (E.seen err.new) result }
-    ensures told_files { FilesTold (map string_bytes words.now) (F.seen folder.old) (F.seen folder.new) result }
-    ensures program { ProgramTold (map string_bytes words.now) (F.seen folder.old) (O.seen out.old) (O.seen out.new) (E.seen err.old) (E.seen err.new) result.kind }
+    ensures call { IsCall (asked_of (map string_bytes words.now)) (F.seen folder.old) (F.seen folder.new) (O.seen out.old) (O.seen out.new) (E.seen err.old) (E.seen err.new) result }
+    ensures causes { Causes (asked_of (map string_bytes words.now)) (F.seen folder.old) (F.seen folder.new) (O.seen out.old) (O.seen out.new) (E.seen err.old) (E.seen err.new) result }
+    ensures told_calls { ToldCalls (asked_of (map string_bytes words.now)) (F.seen folder.old) (F.seen folder.new) (O.seen out.old) (O.seen out.new) (E.seen err.old) (E.seen err.new) result }
+    ensures told_files { FilesTold (asked_of (map string_bytes words.now)) (F.seen folder.old) (F.seen folder.new) result }
+    ensures program { ProgramTold (asked_of (map string_bytes words.now)) (F.seen folder.old) (O.seen out.old) (O.seen out.new) (E.seen err.old) (E.seen err.new) result.kind }
 {
     bytes_have_one_answer();
     programs_are_quiet();
+    words_ask_in_bounds();
     one_call(alloc, words, folder, out, err)
 }
 
@@ -56,140 +55,181 @@ fn one_call<F: Folder, O: Sink, E: Sink>(
     out: &mut O,
     err: &mut E,
 ) -> Status
-    ensures call { IsCall (map string_bytes words.now) (F.seen folder.old) (F.seen folder.new) (O.seen out.old) (O.seen out.new) (E.seen err.old) (E.seen err.new) result }
+    ensures call { IsCall (asked_of (map string_bytes words.now)) (F.seen folder.old) (F.seen folder.new) (O.seen out.old) (O.seen out.new) (E.seen err.old) (E.seen err.new) result }
 {
-    if let Some(files) = files_of(words, "check") {
-        return check_files(alloc, files, folder, err);
+    words_ask_in_bounds();
+    match read_words(alloc, words) {
+        Ok(asked) => do_command(alloc, &asked, folder, out, err),
+        Err(Fault::Refused(_)) => finish(alloc, Kind::Usage, "", err),
+        Err(Fault::Memory) => finish(alloc, Kind::Memory, "", err),
     }
-    let Some(files) = files_of(words, "run") else {
-        return finish(alloc, Kind::Usage, "", &[], err);
-    };
-    let Ok(name) = name_in(alloc, first_word(files)) else {
-        return finish(alloc, Kind::Memory, "", &[], err);
-    };
-    let Ok(target) = c_file_of(alloc, name.as_str()) else {
-        return finish(alloc, Kind::Memory, "", &[], err);
-    };
-    if none_is(files, target.as_str()) {
-        run_files(alloc, files, target.as_str(), name, folder, out, err)
-    } else {
-        finish(alloc, Kind::Usage, "", &[], err)
+}
+
+// Each command.
+fn do_command<F: Folder, O: Sink, E: Sink>(
+    alloc: Global,
+    asked: &Asked,
+    folder: &mut F,
+    out: &mut O,
+    err: &mut E,
+) -> Status
+    requires { IsInBounds (meaning_of asked.now) }
+    ensures { CallBy (Goes (meaning_of asked.now) (O.seen out.old) (E.seen err.old)) (F.seen folder.old) (F.seen folder.new) (O.seen out.new) (E.seen err.new) result }
+{
+    match asked.command {
+        Command::Check => check_files(alloc, asked, folder, err),
+        Command::Emit => build_files(alloc, asked, folder, out, err),
+        Command::Run => build_files(alloc, asked, folder, out, err),
+        Command::Exec => exec_file(alloc, asked, folder, out, err),
     }
 }
 
 // `check FILE..`: nothing is written, and nothing runs.
 fn check_files<F: Folder, E: Sink>(
     alloc: Global,
-    files: &[String],
+    asked: &Asked,
     folder: &mut F,
     err: &mut E,
 ) -> Status
-    ensures { (words : List (List ℕ)) (o : SinkView) → IsCheck words (map string_bytes files.now) → CallBy (Goes words o (E.seen err.old)) (F.seen folder.old) (F.seen folder.new) o (E.seen err.new) result }
+    requires { asked.now.command ≡ Command.Check }
+    ensures { (o : SinkView) → CallBy (Goes (meaning_of asked.now) o (E.seen err.old)) (F.seen folder.old) (F.seen folder.new) o (E.seen err.new) result }
 {
-    let sources = match read_files(alloc, files, folder) {
-        Ok(sources) => sources,
-        Err(unread) => return finish(alloc, unread.kind, unread.file, &[], err),
+    let given = match read_given(alloc, asked, folder) {
+        Ok(given) => given,
+        Err(unread) => return finish(alloc, unread.kind, unread.file, err),
     };
-    match check(alloc, &sources, false) {
-        Ok(()) => finish(alloc, Kind::Ended(0), "", &[], err),
-        Err(Fault::Refused(refusal)) => finish_refused(alloc, refusal, files, &sources, err),
-        Err(Fault::Memory) => finish(alloc, Kind::Memory, "", &[], err),
+    match check(alloc, &given.sources, asked.strict_null) {
+        Ok(()) => finish(alloc, Kind::Ended(0), "", err),
+        Err(Fault::Refused(refusal)) => {
+            finish_refused(alloc, refusal, &asked.files, &given.sources, err)
+        }
+        Err(Fault::Memory) => finish(alloc, Kind::Memory, "", err),
     }
 }
 
-// `run FILE..`: the name and the C file are those of the files.
-fn run_files<F: Folder, O: Sink, E: Sink>(
+// `emit FILE..` and `run FILE..`: the files are compiled.
+fn build_files<F: Folder, O: Sink, E: Sink>(
     alloc: Global,
-    files: &[String],
-    target: &str,
-    name: String,
+    asked: &Asked,
     folder: &mut F,
     out: &mut O,
     err: &mut E,
 ) -> Status
-    requires named { string_bytes name ≡ name_of (first_of (map string_bytes files.now)) }
-    requires target { target.now ≡ c_file (map string_bytes files.now) }
-    ensures { (words : List (List ℕ)) → IsRun words (map string_bytes files.now) → CallBy (Goes words (O.seen out.old) (E.seen err.old)) (F.seen folder.old) (F.seen folder.new) (O.seen out.new) (E.seen err.new) result }
+    requires bounds { IsInBounds (meaning_of asked.now) }
+    requires writes { writes asked.now.command ≡ true }
+    ensures { CallBy (Goes (meaning_of asked.now) (O.seen out.old) (E.seen err.old)) (F.seen folder.old) (F.seen folder.new) (O.seen out.new) (E.seen err.new) result }
 {
-    let sources = match read_files(alloc, files, folder) {
-        Ok(sources) => sources,
-        Err(unread) => return finish(alloc, unread.kind, unread.file, &[], err),
+    let given = match read_given(alloc, asked, folder) {
+        Ok(given) => given,
+        Err(unread) => return finish(alloc, unread.kind, unread.file, err),
     };
-    match compile(alloc, &sources, name.as_str(), false) {
-        Ok(emitted) => {
-            let kind = write_and_run(alloc, target, &emitted.c, name, folder, out, err);
-            finish(alloc, kind, target, &[], err)
+    let name = asked.name.as_str();
+    match compile(alloc, &given.sources, name, asked.strict_null) {
+        Ok(emitted) => deliver(alloc, asked, &emitted.c, given.input, folder, out, err),
+        Err(Fault::Refused(refusal)) => {
+            finish_refused(alloc, refusal, &asked.files, &given.sources, err)
         }
-        Err(Fault::Refused(refusal)) => finish_refused(alloc, refusal, files, &sources, err),
-        Err(Fault::Memory) => finish(alloc, Kind::Memory, "", &[], err),
+        Err(Fault::Memory) => finish(alloc, Kind::Memory, "", err),
     }
 }
 
-// The C file is written, and then run as it is read back.
+// The C goes to the file that has the program's name.
+fn deliver<F: Folder, O: Sink, E: Sink>(
+    alloc: Global,
+    asked: &Asked,
+    c: &[u8],
+    input: Vec<u8>,
+    folder: &mut F,
+    out: &mut O,
+    err: &mut E,
+) -> Status
+    requires bounds { IsInBounds (meaning_of asked.now) }
+    requires writes { writes asked.now.command ≡ true }
+    ensures { (reads : List Call) (f : FolderView) → IsBuilt (meaning_of asked.now) input.items reads c.now → Chain f reads (F.seen folder.old) → CallBy (Goes (meaning_of asked.now) (O.seen out.old) (E.seen err.old)) f (F.seen folder.new) (O.seen out.new) (E.seen err.new) result }
+{
+    let Ok(target) = c_file_of(alloc, asked.name.as_str()) else {
+        return finish(alloc, Kind::Memory, "", err);
+    };
+    let file = target.as_str();
+    let outcome = write_and_run(alloc, asked, file, c, input, folder, out, err);
+    finish_outcome(alloc, outcome, file, err)
+}
+
+// The C file is written, and in `run` it is then run as it is read back.
 fn write_and_run<F: Folder, O: Sink, E: Sink>(
     alloc: Global,
+    asked: &Asked,
     target: &str,
     c: &[u8],
-    name: String,
+    input: Vec<u8>,
     folder: &mut F,
     out: &mut O,
     err: &mut E,
-) -> Kind
-    requires { IsName (string_bytes name) }
-    ensures { Stage (Written target.now c.now (record { name = string_bytes name; input = []; entries = [] }) (O.seen out.old) (E.seen err.old)) (F.seen folder.old) (F.seen folder.new) (O.seen out.new) (E.seen err.new) result }
+) -> Outcome
+    requires bounds { IsInBounds (meaning_of asked.now) }
+    requires writes { writes asked.now.command ≡ true }
+    ensures { Stage (Written (meaning_of asked.now) target.now c.now (world_of (meaning_of asked.now) input.items) (O.seen out.old) (E.seen err.old)) (F.seen folder.old) (F.seen folder.new) (O.seen out.new) (E.seen err.new) result.kind result.texts.items result.muted }
 {
-    match folder.write_file(alloc, target, c) {
-        Ok(()) => run_back(alloc, target, c.len() as u64, name, folder, out, err),
-        Err(fault) => kind_of_write(fault),
+    if let Err(fault) = folder.write_file(alloc, target, c) {
+        return Outcome::plain(alloc, kind_of_write(fault));
+    }
+    match asked.command {
+        Command::Run => {
+            let limit = c.len() as u64;
+            run_back(alloc, asked, target, limit, input, folder, out, err)
+        }
+        _ => Outcome::plain(alloc, Kind::Ended(0)),
     }
 }
 
 // The C file is read back and run.
 fn run_back<F: Folder, O: Sink, E: Sink>(
     alloc: Global,
+    asked: &Asked,
     target: &str,
     limit: u64,
-    name: String,
+    input: Vec<u8>,
     folder: &mut F,
     out: &mut O,
     err: &mut E,
-) -> Kind
-    requires { IsName (string_bytes name) }
-    ensures { Stage (BackCalls target.now limit (record { name = string_bytes name; input = []; entries = [] }) (O.seen out.old) (E.seen err.old)) (F.seen folder.old) (F.seen folder.new) (O.seen out.new) (E.seen err.new) result }
+) -> Outcome
+    requires { IsInBounds (meaning_of asked.now) }
+    ensures { Stage (BackCalls (meaning_of asked.now) target.now limit (world_of (meaning_of asked.now) input.items) (O.seen out.old) (E.seen err.old)) (F.seen folder.old) (F.seen folder.new) (O.seen out.new) (E.seen err.new) result.kind result.texts.items result.muted }
 {
-    let bytes = match folder.read_file(alloc, target) {
-        Ok(bytes) => bytes,
-        Err(fault) => return kind_of_read(fault),
-    };
-    units_have_code();
-    match read(alloc, &bytes, limit) {
-        Ok(unit) => run_unit(alloc, unit, name, out, err),
-        Err(Fault::Refused(refusal)) => Kind::CRefused(refusal),
-        Err(Fault::Memory) => Kind::Memory,
+    match folder.read_file(alloc, target) {
+        Ok(bytes) => run_c(alloc, asked, &bytes, limit, input, out, err),
+        Err(fault) => Outcome::plain(alloc, kind_of_read(fault)),
     }
 }
 
-// The unit runs within the budget.
-fn run_unit<O: Sink, E: Sink>(
+// `exec FILE`: the C of a file runs.
+fn exec_file<F: Folder, O: Sink, E: Sink>(
     alloc: Global,
-    unit: CUnit,
-    name: String,
+    asked: &Asked,
+    folder: &mut F,
     out: &mut O,
     err: &mut E,
-) -> Kind
-    requires named { IsName (string_bytes name) }
-    requires code { items_have_code unit.items ≡ true }
-    ensures { Ran unit (record { name = string_bytes name; input = []; entries = [] }) (O.seen out.old) (O.seen out.new) (E.seen err.old) (E.seen err.new) result }
+) -> Status
+    requires bounds { IsInBounds (meaning_of asked.now) }
+    requires command { asked.now.command ≡ Command.Exec }
+    ensures { CallBy (Goes (meaning_of asked.now) (O.seen out.old) (E.seen err.old)) (F.seen folder.old) (F.seen folder.new) (O.seen out.new) (E.seen err.new) result }
 {
-    let Ok(mut machine) = load(alloc, unit, Vec::new(alloc), name, false) else {
-        return Kind::Memory;
+    let given = match read_given(alloc, asked, folder) {
+        Ok(given) => given,
+        Err(unread) => return finish(alloc, unread.kind, unread.file, err),
     };
-    match machine.run(BUDGET, out, err) {
-        Ok(RunEnd::Done(end)) => kind_of(end),
-        Ok(RunEnd::Spent) => Kind::StepsSpent,
-        Err(RunFault::Out { .. }) => Kind::OutFault,
-        Err(RunFault::Memory) => Kind::Memory,
-    }
+    let input = given.input;
+    let bytes = source_at(&given.sources, 0);
+    let limit = most_c_bytes();
+    let outcome = run_c(alloc, asked, bytes, limit, input, out, err);
+    finish_outcome(alloc, outcome, word_at(&asked.files, 0), err)
+}
+
+#[tactic(auto, unfolding(crate::specs::Course::most_bytes))]
+fn most_c_bytes() -> u64
+    ensures { result ≡ most_bytes }
+{
+    MOST_C_BYTES
 }
 
 fn kind_of_write(fault: FolderFault) -> Kind
@@ -198,48 +238,5 @@ fn kind_of_write(fault: FolderFault) -> Kind
     match fault {
         FolderFault::Missing | FolderFault::Failed => Kind::WriteFault,
         FolderFault::Memory => Kind::Memory,
-    }
-}
-
-// A broken rule is said with the place in the source of its file.
-fn finish_refused<E: Sink>(
-    alloc: Global,
-    refusal: Refusal,
-    files: &[String],
-    sources: &[Vec<u8>],
-    err: &mut E,
-) -> Status
-    ensures { Finishes (Kind.Refused refusal) (get_or (map string_bytes files.now) refusal.span.file []) (get_or (map (λ s. s.items) sources.now) refusal.span.file []) (E.seen err.old) (E.seen err.new) result }
-{
-    let number = refusal.span.file;
-    let source = source_at(sources, number);
-    finish(
-        alloc,
-        Kind::Refused(refusal),
-        word_at(files, number),
-        source,
-        err,
-    )
-}
-
-// The answer is said on err, and the status tells it.
-fn finish<E: Sink>(alloc: Global, answer: Kind, named: &str, source: &[u8], err: &mut E) -> Status
-    ensures { Finishes answer named.now source.now (E.seen err.old) (E.seen err.new) result }
-{
-    match message(alloc, answer, named, source) {
-        Ok(line) => Status::new(put_line(alloc, answer, line.as_bytes(), err)),
-        Err(_) => Status::new(put_line(alloc, Kind::Memory, MEMORY_LINE, err)),
-    }
-}
-
-fn put_line<E: Sink>(alloc: Global, spoken: Kind, line: &[u8], err: &mut E) -> Kind
-    ensures { Closes line.now spoken (E.seen err.old) (E.seen err.new) result }
-{
-    match put_all(alloc, err, line) {
-        Ok(()) => spoken,
-        Err(fault) => match fault.cause {
-            PutFault::Failed => when_unheard(spoken),
-            PutFault::Memory => Kind::Memory,
-        },
     }
 }

@@ -2,12 +2,14 @@
 #![tactic(auto)]
 
 mod call;
+mod finish;
 mod real;
+mod running;
 mod sources;
 mod status;
 #[cfg(test)]
 mod tests;
-mod words;
+mod texts;
 
 use call::vala2c;
 use real::{RealFolder, RealSink};

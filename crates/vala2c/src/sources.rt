@@ -1,10 +1,14 @@
 // The files of a call are read, in order.
 
-ghost use Rattle.std.specs.Prelude.{◌≡◌, [], map, get_or, MatchResult};
+ghost use Rattle.std.specs.Prelude.{◌≡◌, [], map, get_or, MatchResult, Some};
 ghost use Rattle.std.specs.String.{string_bytes};
-ghost use Rattle.vala2c.specs.Stages.{ReadStopped, SourcesRead, read_kind};
+ghost use Rattle.std.specs.Option.{option_map};
+ghost use Rattle.command_line.specs.Answers.{meaning_of};
+ghost use Rattle.vala2c.specs.Course.{AreBytes, files_read};
+ghost use Rattle.vala2c.specs.Stages.{GivenRead, InputRead, InputUnread, ReadStopped, SourcesRead, read_kind};
 
 use crate::status::Kind;
+use command_line::Asked;
 use std::alloc::Global;
 use vg_base::{Folder, FolderFault};
 
@@ -52,6 +56,70 @@ pub fn read_files<'a, F: Folder>(
     }
     Ok(sources)
 }
+
+/// What the files that a call names hold: the sources, and the input of a run.
+#[derive(Drop)]
+pub struct Given {
+    pub sources: Vec<Vec<u8>>,
+    pub input: Vec<u8>,
+}
+
+/// The files of a call are read in order, and then the file of the input.
+pub fn read_given<'a, F: Folder>(
+    alloc: Global,
+    asked: &'a Asked,
+    folder: &mut F,
+) -> Result<Given, Unread<'a>>
+    ensures { MatchResult result (λ given. GivenRead (meaning_of asked.now) (map (λ s. s.items) given.sources.items) given.input.items (F.seen folder.old) (F.seen folder.new)) (λ unread. ReadStopped (files_read (meaning_of asked.now)) unread.kind unread.file.now (F.seen folder.old) (F.seen folder.new)) }
+{
+    let sources = match read_files(alloc, asked.files.as_slice(), folder) {
+        Ok(sources) => sources,
+        Err(unread) => return Err(unread),
+    };
+    match read_input(alloc, &asked.input, folder) {
+        Ok(input) => Ok(Given { sources, input }),
+        Err(unread) => Err(unread),
+    }
+}
+
+// The file of the input is read, where there is one. Without it the input is empty.
+fn read_input<'a, F: Folder>(
+    alloc: Global,
+    input: &'a Option<String>,
+    folder: &mut F,
+) -> Result<Vec<u8>, Unread<'a>>
+    ensures { MatchResult result (λ bytes. InputRead (option_map string_bytes input.now) bytes.items (F.seen folder.old) (F.seen folder.new)) (λ unread. InputUnread (option_map string_bytes input.now) unread.kind unread.file.now (F.seen folder.old) (F.seen folder.new)) }
+{
+    match input {
+        None => Ok(Vec::new(alloc)),
+        Some(word) => read_named(alloc, word.as_str(), folder),
+    }
+}
+
+// The bytes of a file.
+fn read_named<'a, F: Folder>(
+    alloc: Global,
+    file: &'a str,
+    folder: &mut F,
+) -> Result<Vec<u8>, Unread<'a>>
+    ensures { MatchResult result (λ bytes. InputRead (Some file.now) bytes.items (F.seen folder.old) (F.seen folder.new)) (λ unread. InputUnread (Some file.now) unread.kind unread.file.now (F.seen folder.old) (F.seen folder.new)) }
+{
+    match folder.read_file(alloc, file) {
+        Ok(bytes) => {
+            are_bytes(&bytes);
+            Ok(bytes)
+        }
+        Err(fault) => {
+            let kind = kind_of_read(fault);
+            Err(Unread { kind, file })
+        }
+    }
+}
+
+// A law: what is a slice of bytes holds no greater number.
+fn are_bytes(bytes: &[u8])
+    ensures { AreBytes bytes.now }
+{}
 
 /// The word of the file that has a number. There is none behind the last.
 pub fn word_at(files: &[String], number: u32) -> &str

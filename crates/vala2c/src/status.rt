@@ -3,10 +3,13 @@
 ghost use Rattle.std.specs.Prelude.{◌≡◌, ◌+◌, ◌==◌, [], ◌∷◌, ◌++◌, IfOk, count_by, codes};
 ghost use Rattle.std.specs.Fmt.{decimal};
 ghost use Rattle.std.specs.String.{string_bytes};
-ghost use Rattle.vala2c.specs.Status.{cause_name as name_of_cause, cause_text as text_of_cause, line_of, exit_byte, kind_of_end, unheard, trap_word, undef_word, refusal_line, c_refusal_line, located_line, source_place as place_in};
+ghost use Rattle.vala2c.specs.Status.{cause_name as name_of_cause, cause_text as text_of_cause, line_of, exit_byte, kind_of_end as kind_of_an_end, kind_of_run as kind_of_a_run, kind_of_undefined as kind_of_meaningless, unheard, trap_word, undef_word, refusal_line, c_refusal_line, located_line, source_place as place_in};
+ghost use Rattle.vala2c.specs.Stages.{end_in};
 
-use crate::words::{after_last_byte, front};
+use crate::texts::{after_last_byte, front};
+use c_interpreter::RunEnd;
 use c_tree::{Cause, Refusal as CRefusal};
+use command_line::Command;
 use static_rules::{Refusal, rule_name, rule_text};
 use std::alloc::{AllocError, Global};
 use vg_base::{CEnd, TrapKind, UndefKind};
@@ -83,16 +86,42 @@ fn code_of(kind: Kind) -> u8
     }
 }
 
-/// The status of a run of the compiled C that ends so.
-pub fn kind_of(end: CEnd) -> Kind
-    ensures { result ≡ kind_of_end end }
+/// The status of a run that ends so, or whose steps were spent. In `exec` a use of what was freed is told as all that has no meaning.
+pub fn kind_of(command: Command, end: RunEnd) -> Kind
+    ensures { result ≡ kind_of_a_run command (end_in end) }
+{
+    match end {
+        RunEnd::Done(end) => kind_of_end(command, end),
+        RunEnd::Spent => Kind::StepsSpent,
+    }
+}
+
+fn kind_of_end(command: Command, end: CEnd) -> Kind
+    ensures { result ≡ kind_of_an_end command end }
 {
     match end {
         CEnd::Ended(code) => Kind::Ended(code),
         CEnd::Aborted(kind) => Kind::Trapped(kind),
         CEnd::Waiting => Kind::Waiting,
-        CEnd::Undefined(UndefKind::Freed) => Kind::Dead,
-        CEnd::Undefined(kind) => Kind::Undefined(kind),
+        CEnd::Undefined(kind) => kind_of_undefined(command, kind),
+    }
+}
+
+fn kind_of_undefined(command: Command, kind: UndefKind) -> Kind
+    ensures { result ≡ kind_of_meaningless command kind }
+{
+    match kind {
+        UndefKind::Freed => kind_of_freed(command),
+        other => Kind::Undefined(other),
+    }
+}
+
+fn kind_of_freed(command: Command) -> Kind
+    ensures { result ≡ kind_of_meaningless command UndefKind.Freed }
+{
+    match command {
+        Command::Exec => Kind::Undefined(UndefKind::Freed),
+        _ => Kind::Dead,
     }
 }
 

@@ -96,6 +96,31 @@ fn refusals(rt: HostRuntime) -> Result<(), Fail> {
         (["check", "a.vala", "-b.vala"].as_slice(), 2, USAGE),
         (["run", "a.vala", "a.c"].as_slice(), 2, USAGE),
         (["walk", "a.vala"].as_slice(), 2, USAGE),
+        (["check", "--trace", "b.vala"].as_slice(), 2, USAGE),
+        (["emit", "--steps=1", "b.vala"].as_slice(), 2, USAGE),
+        (["exec", "--strict-null", "b.c"].as_slice(), 2, USAGE),
+        (["exec", "b.c", "b.c"].as_slice(), 2, USAGE),
+        (["run", "--events", "e", "b.vala"].as_slice(), 2, USAGE),
+        (
+            ["exec", "--input", "i", "d.c"].as_slice(),
+            3,
+            "vala2c: no file d.c\n",
+        ),
+        (
+            ["exec", "--input", "i", "a.vala"].as_slice(),
+            3,
+            "vala2c: no file i\n",
+        ),
+        (
+            ["exec", "a.vala"].as_slice(),
+            12,
+            "a.vala: byte 0: C3 undeclared\n",
+        ),
+        (
+            ["emit", "a.vala"].as_slice(),
+            10,
+            "a.vala:1:1: U1 not in this profile\n",
+        ),
     ] {
         let (status, out, err) = call(alloc, all, &files)?;
         assert_eq!(rt; status.exit_code(), code, "{line}");
@@ -157,6 +182,113 @@ fn folders_that_fail(rt: HostRuntime) -> Result<(), Fail> {
         assert_eq!(rt; err.taken(), line.as_bytes());
         let written = folder.read_file(alloc, "my_file.c");
         assert_eq!(rt; written.is_ok(), number > 2, "call {number}");
+    }
+    Ok(())
+}
+
+// A call over one folder in memory that never fails, with what it puts out.
+fn call_on(
+    alloc: Global,
+    all: &[&str],
+    folder: &mut GoodFolder,
+) -> Result<(Status, GoodSink, GoodSink), AllocError> {
+    let words = words(alloc, all)?;
+    let mut out = GoodSink::new(alloc);
+    let mut err = GoodSink::new(alloc);
+    let status = vala2c(alloc, &words, folder, &mut out, &mut err);
+    Ok((status, out, err))
+}
+
+#[test]
+fn what_is_emitted_is_run(rt: HostRuntime) -> Result<(), Fail> {
+    let alloc = rt.alloc();
+    let mut folder = GoodFolder::new(alloc);
+    let added: Result<(), Memory> = folder.add(alloc, "a.vala", HELLO.as_bytes());
+    assert!(rt; added.is_ok());
+    let (status, out, err) = call_on(alloc, &["emit", "--name", "b", "a.vala"], &mut folder)?;
+    assert_eq!(rt; status.exit_code(), 0);
+    assert_eq!(rt; out.taken(), b"".as_slice());
+    assert_eq!(rt; err.taken(), b"".as_slice());
+    assert!(rt; folder.read_file(alloc, "a.c").is_err());
+    let (status, out, err) = call_on(alloc, &["exec", "b.c"], &mut folder)?;
+    assert_eq!(rt; status.exit_code(), 0);
+    assert_eq!(rt; out.taken(), b"hi\n".as_slice());
+    assert_eq!(rt; err.taken(), b"".as_slice());
+    Ok(())
+}
+
+const SPEAKS: &str =
+    "#include <glib.h>\n\nint main (int argc, char **argv)\n{\n    gchar *s;\n    s = g_strdup (\"ab\");\n    g_print (\"%s\\n\", s);\n    g_printerr (\"e\\n\");\n    return 3;\n}\n";
+
+const READS: &str =
+    "#include <glib.h>\n\nint main (int argc, char **argv)\n{\n    gchar *s;\n    s = vala_rt_read_line ();\n    g_print (\"%s\\n\", s);\n    g_free (s);\n    return 0;\n}\n";
+
+const FREED: &str =
+    "#include <glib.h>\n\nint main (int argc, char **argv)\n{\n    gchar *s;\n    s = g_strdup (\"ab\");\n    g_free (s);\n    g_print (\"%s\\n\", s);\n    return 0;\n}\n";
+
+#[test]
+fn c_files_are_run(rt: HostRuntime) -> Result<(), Fail> {
+    let alloc = rt.alloc();
+    let files = [
+        ("a.c", SPEAKS),
+        ("b.c", READS),
+        ("c.c", FREED),
+        ("i", "one\ntwo\n"),
+    ];
+    for (all, code, prints, says) in [
+        (["exec", "a.c"].as_slice(), 3, "ab\n", "e\n"),
+        (
+            ["exec", "--trace", "a.c"].as_slice(),
+            3,
+            "ab\n",
+            "e\nmade 1 text\nout 3\nerr 2\n",
+        ),
+        (
+            ["exec", "--live", "--trace", "a.c"].as_slice(),
+            3,
+            "ab\n",
+            "e\nmade 1 text\nout 3\nerr 2\nlive 1 text 1\n",
+        ),
+        (
+            ["exec", "--steps", "0", "--live", "a.c"].as_slice(),
+            20,
+            "",
+            "vala2c: steps spent\n",
+        ),
+        (["exec", "--input", "i", "b.c"].as_slice(), 0, "one\n", ""),
+        (
+            ["exec", "--trace", "c.c"].as_slice(),
+            24,
+            "",
+            "made 1 text\ngone 1\nvala2c: undefined freed\n",
+        ),
+    ] {
+        let (status, out, err) = call(alloc, all, &files)?;
+        assert_eq!(rt; status.exit_code(), code, "{says}");
+        assert_eq!(rt; out.taken(), prints.as_bytes(), "{says}");
+        assert_eq!(rt; err.taken(), says.as_bytes());
+    }
+    Ok(())
+}
+
+#[test]
+fn a_text_that_is_refused_ends_err(rt: HostRuntime) -> Result<(), Fail> {
+    let alloc = rt.alloc();
+    let mut folder = GoodFolder::new(alloc);
+    let added: Result<(), Memory> = folder.add(alloc, "a.c", SPEAKS.as_bytes());
+    assert!(rt; added.is_ok());
+    for (fails, code, says) in [
+        (1, 6, ""),
+        (2, 6, "e\n"),
+        (3, 3, "e\nmade 1 text\nout 3\nerr 2\n"),
+    ] {
+        let mut out = GoodSink::new(alloc);
+        let mut err = MemSink::new(alloc, vec![in alloc; fails]?, 100);
+        let words = words(alloc, &["exec", "--trace", "a.c"])?;
+        let status = vala2c(alloc, &words, &mut folder, &mut out, &mut err);
+        assert_eq!(rt; status.exit_code(), code, "put {fails}");
+        assert_eq!(rt; out.taken(), b"ab\n".as_slice(), "put {fails}");
+        assert_eq!(rt; err.taken(), says.as_bytes(), "put {fails}");
     }
     Ok(())
 }

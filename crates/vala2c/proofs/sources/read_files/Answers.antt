@@ -1,6 +1,6 @@
 use Rattle.std.proofs.Common.{◌≡◌, ◌∷◌, ◌++◌, [], rules}
 use Rattle.std.specs.String.{string_bytes}
-use Rattle.vala2c.proofs.Calls.{none_read, read_next, read_refused, read_without_memory, more_sources}
+use Rattle.vala2c.proofs.Given.{none_read, read_next, read_refused, read_without_memory, more_sources}
 use Rattle.vala2c.proofs.sources.read_files.Goals as goal
 
 pub loop-word-init : goal.loop-word-init
