@@ -1,0 +1,4 @@
+pub mod ChainLemmas
+pub mod SlotLemmas
+pub mod MemberLemmas
+pub mod Examples
