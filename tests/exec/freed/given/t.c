@@ -1,0 +1,1 @@
+int main (int argc, char **argv) { gchar *s; s = g_strdup ("a"); g_free (s); g_print ("%s", s); return 0; }

@@ -1,0 +1,14 @@
+// The trap range.
+#include <glib.h>
+
+int main (int argc, char **argv)
+{
+    g_print ("in\n");
+    g_error ("range");
+    g_print ("never\n");
+    return 0;
+}
+
+// out: in
+// err: vala2c: trap range
+// status: 22

@@ -1,0 +1,1 @@
+int main (int argc, char **argv) { g_print ("%s\n", argv[0]); return 0; }

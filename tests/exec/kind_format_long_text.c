@@ -1,0 +1,13 @@
+// There is no %ls.
+#include <glib.h>
+
+int main (int argc, char **argv)
+{
+    g_print ("in\n");
+    g_print ("%ls", "a");
+    return 0;
+}
+
+// out: in
+// err: vala2c: undefined kind
+// status: 24

@@ -1,0 +1,13 @@
+// A format ends in a directive.
+#include <glib.h>
+
+int main (int argc, char **argv)
+{
+    g_print ("in\n");
+    g_print ("a%");
+    return 0;
+}
+
+// out: in
+// err: vala2c: undefined kind
+// status: 24

@@ -1,0 +1,13 @@
+// %d takes no text.
+#include <glib.h>
+
+int main (int argc, char **argv)
+{
+    g_print ("in\n");
+    g_print ("%d", "a");
+    return 0;
+}
+
+// out: in
+// err: vala2c: undefined kind
+// status: 24

@@ -1,0 +1,13 @@
+// There is no %5%.
+#include <glib.h>
+
+int main (int argc, char **argv)
+{
+    g_print ("in\n");
+    g_print ("%5%");
+    return 0;
+}
+
+// out: in
+// err: vala2c: undefined kind
+// status: 24

@@ -1,0 +1,20 @@
+// A field stands behind the end of its block.
+#include <glib.h>
+
+typedef struct _Node Node;
+struct _Node {
+    gint value;
+    Node *next;
+};
+
+int main (int argc, char **argv)
+{
+    Node *p;
+    gint *q;
+    q = g_new0 (gint, 1);
+    p = (Node *) q;
+    return p->next == NULL;
+}
+
+// err: vala2c: undefined outside
+// status: 24

@@ -1,0 +1,1 @@
+int main (int argc, char **argv) { gint x; x = 2147483647; x = x + 1; return 0; }

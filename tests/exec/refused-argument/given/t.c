@@ -1,0 +1,1 @@
+void f (gint *a) { } int main (int argc, char **argv) { f (1); return 0; }

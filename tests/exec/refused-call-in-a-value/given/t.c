@@ -1,0 +1,1 @@
+gint f (void); int main (int argc, char **argv) { return f (); }

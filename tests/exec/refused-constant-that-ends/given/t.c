@@ -1,0 +1,1 @@
+static gint a = 1 / 0; int main (int argc, char **argv) { return a; }

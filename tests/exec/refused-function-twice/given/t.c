@@ -1,0 +1,1 @@
+void f (void) { } void f (void) { } int main (int argc, char **argv) { return 0; }

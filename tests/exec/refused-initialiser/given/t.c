@@ -1,0 +1,1 @@
+int main (int argc, char **argv) { gint a = 1; return a; }

@@ -1,0 +1,1 @@
+int main (int argc, char **argv) { while (1) { } return 0; }

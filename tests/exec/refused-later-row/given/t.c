@@ -1,0 +1,1 @@
+int main (int argc, char **argv) { g_object_unref (NULL); return 0; }

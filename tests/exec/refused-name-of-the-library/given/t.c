@@ -1,0 +1,1 @@
+void g_free (gpointer p); int main (int argc, char **argv) { return 0; }

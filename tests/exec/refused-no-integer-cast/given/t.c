@@ -1,0 +1,1 @@
+int main (int argc, char **argv) { gint a; a = (gint) argv; return a; }

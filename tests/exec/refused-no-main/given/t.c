@@ -1,0 +1,2 @@
+#include <glib.h>
+static void f (void) { }

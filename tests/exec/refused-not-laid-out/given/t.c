@@ -1,0 +1,1 @@
+typedef struct _P P; int main (int argc, char **argv) { P p; return 0; }

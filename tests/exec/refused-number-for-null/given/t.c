@@ -1,0 +1,1 @@
+int main (int argc, char **argv) { gint *p; p = 0; return 0; }

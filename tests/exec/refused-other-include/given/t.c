@@ -1,0 +1,2 @@
+#include <stdio.h>
+int main (int argc, char **argv) { return 0; }

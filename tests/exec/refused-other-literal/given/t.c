@@ -1,0 +1,1 @@
+int main (int argc, char **argv) { gint64 n; n = g_ascii_strtoll ("1", NULL, 16); return 0; }

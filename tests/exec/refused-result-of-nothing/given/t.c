@@ -1,0 +1,1 @@
+void f (void) { return 1; } int main (int argc, char **argv) { return 0; }

@@ -1,0 +1,1 @@
+int main (int argc, char **argv) { gchar *s; s = "a" + "b"; return 0; }

@@ -1,0 +1,1 @@
+void f (gint a) { } int main (int argc, char **argv) { f (); return 0; }

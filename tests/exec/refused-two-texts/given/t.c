@@ -1,0 +1,1 @@
+int main (int argc, char **argv) { g_print ("a" "b"); return 0; }

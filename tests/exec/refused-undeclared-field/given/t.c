@@ -1,0 +1,1 @@
+typedef struct _P P; struct _P { gint a; }; int main (int argc, char **argv) { P p; p.b = 1; return 0; }

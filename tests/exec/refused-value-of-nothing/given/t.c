@@ -1,0 +1,1 @@
+void f (void) { } int main (int argc, char **argv) { gint a; a = f (); return a; }

@@ -1,0 +1,28 @@
+// The lines of the input, and null at its end.
+#include <glib.h>
+
+int main (int argc, char **argv)
+{
+    gchar *s;
+    again: ;
+    s = vala_rt_read_line ();
+    if (s != NULL) {
+        g_print ("[%s]\n", s);
+        g_free (s);
+        goto again;
+    }
+    s = vala_rt_read_line ();
+    g_print ("%d\n", s == NULL);
+    return 0;
+}
+
+// words: --input input
+// input: first
+// input:
+// input: third 
+// input+ last
+// out: [first]
+// out: []
+// out: [third ]
+// out: [last]
+// out: 1
