@@ -1,0 +1,4 @@
+pub mod Order
+pub mod Phases
+pub mod Text
+pub mod Breaks
