@@ -8,9 +8,9 @@ use Rattle.std.proofs.lemmas.Slice.Eq.{bytes_eq-Decides}
 use Rattle.std.specs.List.{slice_get}
 use Rattle.std.specs.Option.{option_map, IsSome}
 use Rattle.std.specs.Str.{bytes_eq}
-use Rattle.std.specs.Borrow.{Bor}
 use Rattle.std.specs.HashMap.{HashMap, get_by}
 use Rattle.name_table.specs.declared.entry.Entry.{Entry}
+use Rattle.name_table.specs.declared.key.Key.{Key}
 use Rattle.name_table.specs.declared.found.Found.{Found}
 use Rattle.name_table.specs.Names.{latest, changed}
 use Rattle.name_table.specs.Index.{seen, listed, position, IsLinked, IsIndexed}
@@ -19,8 +19,8 @@ some_at : (b : Bool) (o q : Option ℕ) (n : ℕ) → b ≡ true → o ≡ cond 
 some_at b o q n same is = let P : Option ℕ → Type 0 = λ x. IsSome x in subst P (sym (is ∙ ap (λ x. cond x (Some n) q) same)) refl
 
 -- a name that was put into an index is there
-pub covered : {S : Type 0} (old new : HashMap (Bor (List ℕ)) ℕ S) (name : List ℕ) (at : ℕ)
-    → ((other : List ℕ) → get_by (λ k. bytes_eq other k.now) new ≡ cond (bytes_eq name other) (Some at) (get_by (λ k. bytes_eq other k.now) old)) → IsSome (get_by (λ k. bytes_eq name k.now) new)
+pub covered : {S : Type 0} (old new : HashMap Key ℕ S) (name : List ℕ) (at : ℕ)
+    → ((other : List ℕ) → get_by (λ k. bytes_eq other k.name.now) new ≡ cond (bytes_eq name other) (Some at) (get_by (λ k. bytes_eq other k.name.now) old)) → IsSome (get_by (λ k. bytes_eq name k.name.now) new)
 covered old new name at put = some_at _ _ _ _ ((bytes_eq-Decides name name).1 refl) (put name)
 
 same_name : (b : Bool) (o h p q : Option ℕ) → (b ≡ true → h ≡ p) → o ≡ cond b q p → cond b h o ≡ p
@@ -60,24 +60,24 @@ module _ {T : Type 0} where
   pub linked-pop : (es : List (Entry T)) (e : Entry T) → IsLinked (reverse (es ++ e ∷ [])) → (e.hidden ≡ position e.name.now (listed es)) × IsLinked (reverse es)
   linked-pop es e linked = let P : List (Entry T) → Type 0 = λ rs. IsLinked rs in subst P (reverse-append es (e ∷ [])) linked
 
-  pub indexed-push : {S : Type 0} (old new : HashMap (Bor (List ℕ)) ℕ S) (es : List (Entry T)) (e : Entry T) → IsIndexed old (listed es)
-      → ((other : List ℕ) → get_by (λ k. bytes_eq other k.now) new ≡ cond (bytes_eq e.name.now other) (Some (length es)) (get_by (λ k. bytes_eq other k.now) old))
+  pub indexed-push : {S : Type 0} (old new : HashMap Key ℕ S) (es : List (Entry T)) (e : Entry T) → IsIndexed old (listed es)
+      → ((other : List ℕ) → get_by (λ k. bytes_eq other k.name.now) new ≡ cond (bytes_eq e.name.now other) (Some (length es)) (get_by (λ k. bytes_eq other k.name.now) old))
       → IsIndexed new (listed (es ++ e ∷ []))
   indexed-push old new es e indexed put other =
-      put other ∙ ap (λ (n : ℕ). cond (bytes_eq e.name.now other) (Some n) (get_by (λ k. bytes_eq other k.now) old)) (sym (length-listed es))
+      put other ∙ ap (λ (n : ℕ). cond (bytes_eq e.name.now other) (Some n) (get_by (λ k. bytes_eq other k.name.now) old)) (sym (length-listed es))
       ∙ ap (cond (bytes_eq e.name.now other) (Some (length (listed es)))) (indexed other) ∙ sym (position-cons other (seen e) (listed es)) ∙ ap (position other) (sym (listed-push es e))
 
-  pub indexed-pop : {S : Type 0} (old new : HashMap (Bor (List ℕ)) ℕ S) (es : List (Entry T)) (e : Entry T) → IsLinked (reverse (es ++ e ∷ [])) → IsIndexed old (listed (es ++ e ∷ []))
-      → ((other : List ℕ) → get_by (λ k. bytes_eq other k.now) new ≡ cond (bytes_eq e.name.now other) e.hidden (get_by (λ k. bytes_eq other k.now) old))
+  pub indexed-pop : {S : Type 0} (old new : HashMap Key ℕ S) (es : List (Entry T)) (e : Entry T) → IsLinked (reverse (es ++ e ∷ [])) → IsIndexed old (listed (es ++ e ∷ []))
+      → ((other : List ℕ) → get_by (λ k. bytes_eq other k.name.now) new ≡ cond (bytes_eq e.name.now other) e.hidden (get_by (λ k. bytes_eq other k.name.now) old))
       → IsIndexed new (listed es)
   indexed-pop old new es e linked indexed put other =
-      let was : get_by (λ k. bytes_eq other k.now) old ≡ cond (bytes_eq e.name.now other) (Some (length (listed es))) (position other (listed es)) =
+      let was : get_by (λ k. bytes_eq other k.name.now) old ≡ cond (bytes_eq e.name.now other) (Some (length (listed es))) (position other (listed es)) =
       indexed other ∙ ap (position other) (listed-push es e) ∙ position-cons other (seen e) (listed es) in
       let same : bytes_eq e.name.now other ≡ true → e.hidden ≡ position other (listed es) =
       λ is. (linked-pop es e linked).0 ∙ ap (λ n. position n (listed es)) ((bytes_eq-Decides e.name.now other).0 is) in
       put other ∙ same_name (bytes_eq e.name.now other) _ _ _ _ same was
 
-  pub latest_is : {S : Type 0} (index : HashMap (Bor (List ℕ)) ℕ S) (es : List (Entry T)) (e : Entry T) → IsIndexed index (listed (es ++ e ∷ [])) → IsSome (get_by (λ k. bytes_eq e.name.now k.now) index)
+  pub latest_is : {S : Type 0} (index : HashMap Key ℕ S) (es : List (Entry T)) (e : Entry T) → IsIndexed index (listed (es ++ e ∷ [])) → IsSome (get_by (λ k. bytes_eq e.name.now k.name.now) index)
   latest_is index es e indexed =
       let here : position e.name.now (listed (es ++ e ∷ [])) ≡ cond (bytes_eq e.name.now e.name.now) (Some (length (listed es))) (position e.name.now (listed es)) =
       ap (position e.name.now) (listed-push es e) ∙ position-cons e.name.now (seen e) (listed es) in
@@ -218,7 +218,7 @@ module _ {T : Type 0} where
   pub linked-set : (es : List (Entry T)) (p : ℕ) (m : T) (e : Entry T) → slice_get es p ≡ Some e → IsLinked (reverse es) → IsLinked (reverse (set es p (record e { meaning = m })))
   linked-set es p m e is linked = let P : List (Entry T) → Type 0 = λ rs. IsLinked rs in subst P (sym (set_is es p m e is)) (linked-replaced p m (reverse es) linked)
 
-  pub indexed-changed : {S : Type 0} (index : HashMap (Bor (List ℕ)) ℕ S) (p : ℕ) (m : T) (es : List (List ℕ × T)) → IsIndexed index es → IsIndexed index (changed p m es)
+  pub indexed-changed : {S : Type 0} (index : HashMap Key ℕ S) (p : ℕ) (m : T) (es : List (List ℕ × T)) → IsIndexed index es → IsIndexed index (changed p m es)
   indexed-changed index p m es indexed name = indexed name ∙ sym (position-changed name p m es)
 
   pub changed-past : (p : ℕ) (m : T) (es : List (List ℕ × T)) → length es ≤ p → changed p m es ≡ es

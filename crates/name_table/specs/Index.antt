@@ -2,9 +2,9 @@
 use Rattle.std.specs.Prelude.{◌≡◌, ℕ, List, [], ◌∷◌, map, reverse, Option}
 use Rattle.std.specs.Option.{option_map}
 use Rattle.std.specs.Str.{bytes_eq}
-use Rattle.std.specs.Borrow.{Bor}
 use Rattle.std.specs.HashMap.{HashMap, get_by}
 use Rattle.name_table.specs.declared.entry.Entry.{Entry}
+use Rattle.name_table.specs.declared.key.Key.{Key}
 use Rattle.name_table.specs.Names.{latest}
 
 module _ {T : Type 0} where
@@ -26,5 +26,5 @@ module _ {T : Type 0} where
   IsLinked (e ∷ es) = (e.hidden ≡ position e.name.now (map seen es)) × IsLinked es
 
   -- the index gives the position of the latest entry of each name
-  abbrev pub IsIndexed : {S : Type 0} → HashMap (Bor (List ℕ)) ℕ S → List (List ℕ × T) → Type 0
-  IsIndexed index es = (name : List ℕ) → get_by (λ k. bytes_eq name k.now) index ≡ position name es
+  abbrev pub IsIndexed : {S : Type 0} → HashMap Key ℕ S → List (List ℕ × T) → Type 0
+  IsIndexed index es = (name : List ℕ) → get_by (λ k. bytes_eq name k.name.now) index ≡ position name es

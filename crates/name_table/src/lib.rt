@@ -4,6 +4,7 @@
 mod entry;
 mod found;
 mod index;
+mod key;
 mod table;
 
 pub use found::Found;

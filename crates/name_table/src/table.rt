@@ -6,6 +6,7 @@ ghost use Rattle.name_table.specs.Names.{latest, oldest, changed};
 use crate::entry::Entry;
 use crate::found::Found;
 use crate::index::{Index, cover, uncover};
+use crate::key::Key;
 use std::alloc::Global;
 use std::collections::HashMap;
 use std::hash::BuildHasherDefault;
@@ -73,7 +74,7 @@ impl<'n, T: Copy> NameTable<'n, T> {
     pub fn find(&self, name: &[u8]) -> Option<Found<T>>
         ensures { result ≡ latest name.now self.now }
     {
-        let position = *self.index.get(name)?;
+        let position = *self.index.get(&Key { name })?;
         let entry = self.entries.get(position)?;
         Some(Found {
             meaning: entry.meaning,
