@@ -15,7 +15,7 @@ use Rattle.c_tree.specs.Env.{Env}
 use Rattle.vg_base.specs.declared.event.Event.TheVariants as event
 use Rattle.c_meaning.specs.declared.cell.Cell.{Cell}
 use Rattle.c_meaning.specs.declared.cell.Cell.TheVariants.{Int, Uns, Ptr, Func, Null, Unset}
-use Rattle.c_meaning.specs.State.{State, Frame, Item, Run, Enter, Keep, Finish, Place, Value, Scalar}
+use Rattle.c_meaning.specs.State.{State, Frame, Item, Run, Enter, Ask, Keep, Finish, Place, Value, Scalar}
 use Rattle.c_meaning.specs.Blocks.{Answer, bind, on, stop, undefined, happens, free, set, get_cells, make, unset, next_block, next_pointer}
 use Rattle.c_meaning.specs.Numbers.{pointed, number_of, is_false, truth, as_kind, converted, scalar}
 use Rattle.c_meaning.specs.Texts.{give, give_nothing, give_text, text_of, text_up_to, optional_text, compared_optional, is_front, is_back, place_in, number_read}
@@ -377,6 +377,7 @@ finish_moves s (Some v) = on_moves {A = ℤ} 0 s s (bind (scalar v) number_of) (
 silent_moves : (rs : List Routine) (p : Program) (s : State) (i : Item) → is_own i ≡ true → Moves 0 s (machine.do_silent rs p s i)
 silent_moves rs p s (Run f) h = pass_moves s f (machine.gives_nothing (slice_get rs f.routine)) (machine.statement_at rs f)
 silent_moves rs p s (Enter n vs) h = same 0 s
+silent_moves rs p s (Ask f cs) h = same 0 s
 silent_moves rs p s (Keep q k) h = keep_moves p.env s q k s.given
 silent_moves rs p s Finish h = finish_moves s s.given
 silent_moves rs p s i h = absurd (true≢false (sym h))
@@ -409,6 +410,7 @@ settled_moves rs p (suc n) s h =
 item_moves : (rs : List Routine) (p : Program) (s : State) (i : Item) → is_own i ≡ true → Moves 1 s (machine.do_item rs p s i)
 item_moves rs p s (Run f) h = perform_moves rs s f (machine.statement_at rs f)
 item_moves rs p s (Enter n vs) h = frame_moves s n vs (machine.body_of (slice_get rs n))
+item_moves rs p s (Ask f cs) h = cell_moves rs s (steps.scalars cs) f
 item_moves rs p s (Keep q k) h = more s (steps.keep p.env s q k s.given) (keep_moves p.env s q k s.given)
 item_moves rs p s Finish h = more s (steps.finish s s.given) (finish_moves s s.given)
 item_moves rs p s i h = absurd (true≢false (sym h))

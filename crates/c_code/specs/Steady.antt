@@ -3,15 +3,16 @@ use Rattle.std.specs.Prelude.{◌≡◌, ℕ, suc, ◌≤◌, Bool, true, false,
 use Rattle.vg_base.specs.declared.event.Event.TheVariants as event
 use Rattle.vg_base.specs.Headline.{Said, Happens}
 use Rattle.c_meaning.specs.State
-use Rattle.c_meaning.specs.State.{Item, Run, Enter, Keep, Finish}
+use Rattle.c_meaning.specs.State.{Item, Run, Enter, Ask, Keep, Finish}
 use Rattle.c_meaning.specs.Values.{Program}
 use Rattle.c_code.specs.declared.program.Routine.{Routine}
 use Rattle.c_code.specs.Machine.{step}
 
--- an item that code puts into the work
+-- an item that code puts into the work, or that a function of the library asks for
 abbrev pub is_own : Item → Bool
 is_own (Run f) = true
 is_own (Enter n vs) = true
+is_own (Ask f cs) = true
 is_own (Keep p k) = true
 is_own Finish = true
 is_own i = false
