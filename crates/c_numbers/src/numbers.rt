@@ -55,11 +55,29 @@ fn signed(width: Width, bits: u64) -> i128
     }
 }
 
+// Whether a number has so many bits, one of them the sign.
+fn in_range(width: Width, number: i128) -> bool
+    ensures { result ≡ spec.in_range (kinds.bits width) number }
+{
+    let half = half(width) as i128;
+    -half <= number && number < half
+}
+
+// The number with a sign that has these low bits. It is the number itself where it has no others.
+fn wrap_signed(width: Width, number: i128) -> i128
+    ensures { result ≡ spec.signed (kinds.bits width) (spec.modulo number (2 ^ kinds.bits width)) }
+{
+    if in_range(width, number) {
+        return number;
+    }
+    signed(width, modulo(width, number))
+}
+
 fn wrap_base(base: KindBase, number: i128) -> i128
     ensures { result ≡ spec.wrap_base base number }
 {
     match base {
-        KindBase::Integer(width, true) => signed(width, modulo(width, number)),
+        KindBase::Integer(width, true) => wrap_signed(width, number),
         KindBase::Integer(width, false) => modulo(width, number) as i128,
         _ => number,
     }
@@ -70,14 +88,6 @@ pub fn wrap(kind: Kind, number: i128) -> i128
     ensures { result ≡ spec.wrap kind number }
 {
     wrap_base(kind.base, number)
-}
-
-// Whether a number has so many bits, one of them the sign.
-fn in_range(width: Width, number: i128) -> bool
-    ensures { result ≡ spec.in_range (kinds.bits width) number }
-{
-    let half = half(width) as i128;
-    -half <= number && number < half
 }
 
 /// The result of an operation: a signed overflow ends the run, an unsigned one wraps.
