@@ -17,7 +17,7 @@ use Rattle.c_cursor.specs.Places.{place_of}
 use Rattle.c_cursor.specs.Reading.{Place, is_next}
 use Rattle.c_cursor.specs.Scopes.{names_of}
 use Rattle.c_cursor.specs.Sets.{is_in}
-use Rattle.c_cursor.specs.State.{first, rest}
+use Rattle.c_cursor.specs.State.{first, is_first_in, rest}
 use Rattle.c_cursor.proofs.MadeLaws.{is_first}
 
 -- 1. The next token
@@ -25,24 +25,14 @@ use Rattle.c_cursor.proofs.MadeLaws.{is_first}
 pub next_stopped : (x : Set) (p : Parser) → p.is_stopped ≡ true → false ≡ next_in kind (test x p) (state p)
 next_stopped x p e = ap (λ (b : Bool). next_in kind (test x p) (state_at b (rest p.cursor))) (sym e)
 
-next_some : (f : Kind → Bool) (b : Bool) (w : Word) (t : words.Token) (r : Bool) → b ≡ false → Some t ≡ first w → r ≡ f (kind t)
-    → r ≡ next_in kind f (state_at b w)
-next_some f true w t r e n h = absurd cc
-next_some f false [] t r e n h = absurd cc
-next_some f false (y ∷ w) t r e n h = let same : t ≡ y = cc in h ∙ ap (λ (z : words.Token). f (kind z)) same
+next_first : (f : Kind → Bool) (b : Bool) (w : Word) → b ≡ false → is_first_in f w ≡ next_in kind f (state_at b w)
+next_first f true w e = absurd cc
+next_first f false [] e = refl
+next_first f false (t ∷ w) e = refl
 
-next_none : (f : Kind → Bool) (b : Bool) (w : Word) → None ≡ first w → false ≡ next_in kind f (state_at b w)
-next_none f true w n = refl
-next_none f false [] n = refl
-next_none f false (y ∷ w) n = absurd cc
-
-pub next_found : (x : Set) (p : Parser) (t : Token) (r : Bool) → p.is_stopped ≡ false → Some (seen t) ≡ first (rest p.cursor)
-    → r ≡ is_in x (names_of p.names) (kind (seen t))
+pub next_found : (x : Set) (p : Parser) (r : Bool) → p.is_stopped ≡ false → r ≡ is_first_in (is_in x (names_of p.names)) (rest p.cursor)
     → r ≡ next_in kind (test x p) (state p)
-next_found x p t r e n h = next_some (test x p) p.is_stopped (rest p.cursor) (seen t) r e n h
-
-pub next_missing : (x : Set) (p : Parser) → None ≡ first (rest p.cursor) → false ≡ next_in kind (test x p) (state p)
-next_missing x p n = next_none (test x p) p.is_stopped (rest p.cursor) n
+next_found x p r e h = h ∙ next_first (test x p) p.is_stopped (rest p.cursor) e
 
 pub is_next_law : (x : Set) (p : Parser) (r : Bool) → r ≡ next_in kind (test x p) (state p) → r ≡ is_next (names_of p.names) x (state p)
 unfolding is_next
@@ -127,4 +117,4 @@ asked_made x l before p q t n place asks none ends next at made =
     made ∙ ap (λ (i : ℕ). made_for i x) where_is ∙ sym (is_first (suc (words.start_of p.end (rest p.cursor))) x (names_of p.names) before asks) in
     ap₂ (λ (y : words.Token) (w : Word). stopped_with y w) token left ∙ made_at p.end (test x p) l before p.is_stopped (rest p.cursor) over.0
 
-pub ruleset next_laws = (next_stopped, next_found, next_missing, is_next_law)
+pub ruleset next_laws = (next_stopped, next_found, is_next_law)

@@ -5,6 +5,8 @@ ghost use Rattle.c_cursor.specs.Ahead.{start_ahead};
 ghost use Rattle.c_cursor.specs.Fronts.{text_of};
 
 use crate::front::{Before, Front};
+use crate::names::Names;
+use crate::sets::Set;
 use c_lexer::{BadToken, Lexer};
 use c_nodes::Token;
 
@@ -23,7 +25,9 @@ impl<'t> Cursor<'t> {
     ghost use Rattle.c_tree.specs.Words.{words};
     ghost use Rattle.c_nodes.specs.Seen.{seen};
     ghost use Rattle.c_cursor.specs.Rest.{bad_of, tokens_of};
-    ghost use Rattle.c_cursor.specs.State.{bad, first, rest, seen_option, text_end};
+    ghost use Rattle.c_cursor.specs.Scopes.{names_of};
+    ghost use Rattle.c_cursor.specs.Sets.{is_in};
+    ghost use Rattle.c_cursor.specs.State.{bad, first, is_first_in, rest, seen_option, text_end};
 
     pub fn new(lexer: Lexer<'t>) -> Cursor<'t>
         ensures tokens { rest result ≡ words (tokens_of (left lexer.entry)) }
@@ -52,6 +56,17 @@ impl<'t> Cursor<'t> {
         match self.ahead {
             Ok(token) => token,
             Err(_) => None,
+        }
+    }
+
+    /// Whether there is a next token, and it is in a set among names.
+    #[inline]
+    pub fn shows(&self, names: &Names<'t>, set: Set<'t>) -> bool
+        ensures { result ≡ is_first_in (is_in set.entry (names_of names.now)) (rest self.now) }
+    {
+        match &self.ahead {
+            Ok(Some(token)) => names.have(set, token),
+            _ => false,
         }
     }
 

@@ -32,7 +32,7 @@ pub struct Parser<'t> {
 }
 
 impl<'t> Parser<'t> {
-    ghost use Rattle.std.specs.Prelude.{◌≤◌, false, length, IfOk, IsSome, Some};
+    ghost use Rattle.std.specs.Prelude.{◌≤◌, false, true, length, IfOk, IsSome, Some};
     ghost use Rattle.mending_readers.specs.Mending as mending;
     ghost use Rattle.c_lexer.specs.Tokens.{all_of};
     ghost use Rattle.c_tree.specs.Names as names;
@@ -79,10 +79,7 @@ impl<'t> Parser<'t> {
         if self.is_stopped {
             return false;
         }
-        match self.cursor.token() {
-            Some(token) => self.names.contain(set, token),
-            None => false,
-        }
+        self.cursor.shows(&self.names, set)
     }
 
     /// Takes the next token if it is in a set. One whose level is too high stops the reader, and is made up.
@@ -110,6 +107,20 @@ impl<'t> Parser<'t> {
         if !self.next_in(set) {
             return None;
         }
+        self.take_next(set, level)
+    }
+
+    // Takes the next token, which is in a set.
+    #[inline(never)]
+    fn take_next(&mut self, set: Set<'t>, level: u32) -> Option<Token<'t>>
+        requires there { mending.next_in kind (test set self.old) (state self.old) ≡ true }
+        ensures token { (seen_option result, state self.new) ≡ accepted set.entry level self.old }
+        ensures names { self.new.names ≡ self.old.names }
+        ensures ends { self.new.end ≡ self.old.end }
+        ensures stop { bad self.new.cursor ≡ bad self.old.cursor }
+        ensures shorter { IsSome result → room (state self.new) < room (state self.old) }
+        ensures low { IsSome result → self.new.is_stopped ≡ false → level < 65 }
+    {
         if level < LEVELS {
             return self.cursor.take();
         }

@@ -89,8 +89,8 @@ pub enum Set<'t> {
 }
 
 #[tactic(auto, using(crate::proofs::SignLaws::signs_equal))]
-fn is_sign(token: Token<'_>, sign: Sign) -> bool
-    ensures { result ≡ on [] (tests.sign_is sign) (kind (seen token.entry)) }
+fn is_sign(token: &Token<'_>, sign: Sign) -> bool
+    ensures { result ≡ on [] (tests.sign_is sign) (kind (seen token.now)) }
 {
     match token.terminal {
         Terminal::Of(TokenKind::Sign(found)) => sign as u8 == found as u8,
@@ -98,8 +98,8 @@ fn is_sign(token: Token<'_>, sign: Sign) -> bool
     }
 }
 
-fn is_word(token: Token<'_>, word: Keyword) -> bool
-    ensures { result ≡ on [] (tests.word_is word) (kind (seen token.entry)) }
+fn is_word(token: &Token<'_>, word: Keyword) -> bool
+    ensures { result ≡ on [] (tests.word_is word) (kind (seen token.now)) }
 {
     match token.terminal {
         Terminal::Of(TokenKind::Keyword(found)) => found as u8 == word as u8,
@@ -107,20 +107,20 @@ fn is_word(token: Token<'_>, word: Keyword) -> bool
     }
 }
 
-fn is_name(token: Token<'_>) -> bool
-    ensures { result ≡ on [] (tests.is Name) (kind (seen token.entry)) }
+fn is_name(token: &Token<'_>) -> bool
+    ensures { result ≡ on [] (tests.is Name) (kind (seen token.now)) }
 {
     matches!(token.terminal, Terminal::Of(TokenKind::Identifier))
 }
 
-fn is_number(token: Token<'_>) -> bool
-    ensures { result ≡ on [] (tests.is Number) (kind (seen token.entry)) }
+fn is_number(token: &Token<'_>) -> bool
+    ensures { result ≡ on [] (tests.is Number) (kind (seen token.now)) }
 {
     matches!(token.terminal, Terminal::Of(TokenKind::Number(..)))
 }
 
-fn is_null(token: Token<'_>) -> bool
-    ensures { result ≡ on [] (tests.is Null) (kind (seen token.entry)) }
+fn is_null(token: &Token<'_>) -> bool
+    ensures { result ≡ on [] (tests.is Null) (kind (seen token.now)) }
 {
     matches!(
         token.terminal,
@@ -128,8 +128,8 @@ fn is_null(token: Token<'_>) -> bool
     )
 }
 
-fn is_literal(token: Token<'_>) -> bool
-    ensures { result ≡ on [] (tests.is_literal) (kind (seen token.entry)) }
+fn is_literal(token: &Token<'_>) -> bool
+    ensures { result ≡ on [] (tests.is_literal) (kind (seen token.now)) }
 {
     matches!(
         token.terminal,
@@ -142,21 +142,21 @@ fn is_literal(token: Token<'_>) -> bool
     )
 }
 
-fn is_file(token: Token<'_>) -> bool
-    ensures { result ≡ on [] (tests.is File) (kind (seen token.entry)) }
+fn is_file(token: &Token<'_>) -> bool
+    ensures { result ≡ on [] (tests.is File) (kind (seen token.now)) }
 {
     matches!(token.terminal, Terminal::File(_))
 }
 
 #[tactic(auto, using(crate::proofs::SetLaws::set_laws))]
-fn is_hash(token: Token<'_>) -> bool
-    ensures { result ≡ on [] tests.begins_include (kind (seen token.entry)) }
+fn is_hash(token: &Token<'_>) -> bool
+    ensures { result ≡ on [] tests.begins_include (kind (seen token.now)) }
 {
     is_sign(token, Sign::Hash) && token.begins_line
 }
 
-fn is_name_of(token: Token<'_>, letters: &[u8]) -> bool
-    ensures { result ≡ tests.is_name_of letters.now (kind (seen token.entry)) }
+fn is_name_of(token: &Token<'_>, letters: &[u8]) -> bool
+    ensures { result ≡ tests.is_name_of letters.now (kind (seen token.now)) }
 {
     match token.terminal {
         Terminal::Of(TokenKind::Identifier) => token.text == letters,
@@ -165,8 +165,8 @@ fn is_name_of(token: Token<'_>, letters: &[u8]) -> bool
 }
 
 #[tactic(auto, using(crate::proofs::SetLaws::set_laws))]
-fn is_include_word(token: Token<'_>) -> bool
-    ensures { result ≡ tests.is_include_word (kind (seen token.entry)) }
+fn is_include_word(token: &Token<'_>) -> bool
+    ensures { result ≡ tests.is_include_word (kind (seen token.now)) }
 {
     is_name_of(token, b"include") && !token.begins_line
 }
@@ -180,8 +180,8 @@ fn begins_low(letters: &[u8]) -> bool
     }
 }
 
-fn is_tag(token: Token<'_>) -> bool
-    ensures { result ≡ tests.is_tag (kind (seen token.entry)) }
+fn is_tag(token: &Token<'_>) -> bool
+    ensures { result ≡ tests.is_tag (kind (seen token.now)) }
 {
     match token.terminal {
         Terminal::Of(TokenKind::Identifier) => begins_low(token.text),
@@ -204,8 +204,8 @@ pub fn is_info(letters: &[u8]) -> bool
 }
 
 #[tactic(auto, using(crate::proofs::SetLaws::set_laws))]
-fn is_free_name(token: Token<'_>, may_be_main: bool) -> bool
-    ensures { result ≡ tests.is_free_name may_be_main (kind (seen token.entry)) }
+fn is_free_name(token: &Token<'_>, may_be_main: bool) -> bool
+    ensures { result ≡ tests.is_free_name may_be_main (kind (seen token.now)) }
 {
     match token.terminal {
         Terminal::Of(TokenKind::Identifier) => !is_main(token.text) || may_be_main,
@@ -253,8 +253,8 @@ fn means_char(role: Role) -> bool
     matches!(role, Role::Type(Meaning::Char))
 }
 
-fn is_key_base(token: Token<'_>) -> bool
-    ensures { result ≡ on [] tests.is_key_base (kind (seen token.entry)) }
+fn is_key_base(token: &Token<'_>) -> bool
+    ensures { result ≡ on [] tests.is_key_base (kind (seen token.now)) }
 {
     matches!(
         token.terminal,
@@ -263,28 +263,28 @@ fn is_key_base(token: Token<'_>) -> bool
 }
 
 #[tactic(auto, using(crate::proofs::SetLaws::set_laws))]
-fn begins_key_type(token: Token<'_>) -> bool
-    ensures { result ≡ on [] tests.begins_key_type (kind (seen token.entry)) }
+fn begins_key_type(token: &Token<'_>) -> bool
+    ensures { result ≡ on [] tests.begins_key_type (kind (seen token.now)) }
 {
     is_word(token, Keyword::Const) || is_key_base(token)
 }
 
 #[tactic(auto, using(crate::proofs::SetLaws::set_laws))]
-fn goes_on_type(token: Token<'_>) -> bool
-    ensures { result ≡ on [] tests.goes_on_type (kind (seen token.entry)) }
+fn goes_on_type(token: &Token<'_>) -> bool
+    ensures { result ≡ on [] tests.goes_on_type (kind (seen token.now)) }
 {
     is_sign(token, Sign::Star) || is_word(token, Keyword::Const)
 }
 
 #[tactic(auto, using(crate::proofs::SetLaws::set_laws))]
-fn goes_on_local(token: Token<'_>) -> bool
-    ensures { result ≡ on [] tests.goes_on_local (kind (seen token.entry)) }
+fn goes_on_local(token: &Token<'_>) -> bool
+    ensures { result ≡ on [] tests.goes_on_local (kind (seen token.now)) }
 {
     goes_on_type(token) || is_name(token)
 }
 
-fn begins_unnamed(token: Token<'_>) -> bool
-    ensures { result ≡ on [] tests.begins_unnamed (kind (seen token.entry)) }
+fn begins_unnamed(token: &Token<'_>) -> bool
+    ensures { result ≡ on [] tests.begins_unnamed (kind (seen token.now)) }
 {
     matches!(
         token.terminal,
@@ -298,8 +298,8 @@ fn begins_unnamed(token: Token<'_>) -> bool
     )
 }
 
-fn begins_by_word(token: Token<'_>) -> bool
-    ensures { result ≡ on [] spec.begins_by_word (kind (seen token.entry)) }
+fn begins_by_word(token: &Token<'_>) -> bool
+    ensures { result ≡ on [] spec.begins_by_word (kind (seen token.now)) }
 {
     matches!(
         token.terminal,
@@ -310,8 +310,8 @@ fn begins_by_word(token: Token<'_>) -> bool
 }
 
 #[tactic(auto, using(crate::proofs::SetLaws::set_laws))]
-fn begins_plain(token: Token<'_>) -> bool
-    ensures { result ≡ on [] tests.begins_plain (kind (seen token.entry)) }
+fn begins_plain(token: &Token<'_>) -> bool
+    ensures { result ≡ on [] tests.begins_plain (kind (seen token.now)) }
 {
     is_sign(token, Sign::Star)
         || (is_sign(token, Sign::OpenParen)
@@ -320,14 +320,14 @@ fn begins_plain(token: Token<'_>) -> bool
 }
 
 #[tactic(auto, using(crate::proofs::SetLaws::set_laws))]
-fn begins_statement(token: Token<'_>) -> bool
-    ensures { result ≡ on [] tests.begins_statement (kind (seen token.entry)) }
+fn begins_statement(token: &Token<'_>) -> bool
+    ensures { result ≡ on [] tests.begins_statement (kind (seen token.now)) }
 {
     is_name(token) || begins_plain(token)
 }
 
-fn is_prefix(token: Token<'_>, constant: bool) -> bool
-    ensures { result ≡ on [] (spec.is_any_prefix constant) (kind (seen token.entry)) }
+fn is_prefix(token: &Token<'_>, constant: bool) -> bool
+    ensures { result ≡ on [] (spec.is_any_prefix constant) (kind (seen token.now)) }
 {
     match token.terminal {
         Terminal::Of(TokenKind::Sign(sign)) => prefix_of(constant, sign).is_some(),
@@ -335,8 +335,8 @@ fn is_prefix(token: Token<'_>, constant: bool) -> bool
     }
 }
 
-fn links(token: Token<'_>, level: Level) -> bool
-    ensures { result ≡ on [] (tests.links level) (kind (seen token.entry)) }
+fn links(token: &Token<'_>, level: Level) -> bool
+    ensures { result ≡ on [] (tests.links level) (kind (seen token.now)) }
 {
     match token.terminal {
         Terminal::Of(TokenKind::Sign(sign)) => match binary_of(sign) {
@@ -348,8 +348,8 @@ fn links(token: Token<'_>, level: Level) -> bool
 }
 
 // The levels stand in order, the loosest first.
-fn links_up_to(token: Token<'_>, level: Level) -> bool
-    ensures { result ≡ on [] (tests.links_up_to level) (kind (seen token.entry)) }
+fn links_up_to(token: &Token<'_>, level: Level) -> bool
+    ensures { result ≡ on [] (tests.links_up_to level) (kind (seen token.now)) }
 {
     match token.terminal {
         Terminal::Of(TokenKind::Sign(sign)) => match binary_of(sign) {
@@ -361,37 +361,37 @@ fn links_up_to(token: Token<'_>, level: Level) -> bool
 }
 
 #[tactic(auto, using(crate::proofs::SetLaws::set_laws))]
-fn is_dot(token: Token<'_>, may_be: bool) -> bool
-    ensures { result ≡ (may_be && on [] (tests.sign_is sign.Dot) (kind (seen token.entry))) }
+fn is_dot(token: &Token<'_>, may_be: bool) -> bool
+    ensures { result ≡ (may_be && on [] (tests.sign_is sign.Dot) (kind (seen token.now))) }
 {
     may_be && is_sign(token, Sign::Dot)
 }
 
 #[tactic(auto, using(crate::proofs::SetLaws::set_laws))]
-fn is_field(token: Token<'_>, dot: bool) -> bool
-    ensures { result ≡ on [] (tests.is_field dot) (kind (seen token.entry)) }
+fn is_field(token: &Token<'_>, dot: bool) -> bool
+    ensures { result ≡ on [] (tests.is_field dot) (kind (seen token.now)) }
 {
     is_sign(token, Sign::Arrow) || is_dot(token, dot)
 }
 
 // Whether a token stands where it may: at the beginning of a line where it must.
 #[tactic(auto, using(crate::proofs::SetLaws::set_laws))]
-fn stands_on_line(token: Token<'_>, line: bool) -> bool
-    ensures { result ≡ (not line || token.entry.begins_line) }
+fn stands_on_line(token: &Token<'_>, line: bool) -> bool
+    ensures { result ≡ (not line || token.now.begins_line) }
 {
     !line || token.begins_line
 }
 
 #[tactic(auto, using(crate::proofs::SetLaws::set_laws))]
-fn is_word_on_line(token: Token<'_>, line: bool, word: Keyword) -> bool
-    ensures { result ≡ on [] (tests.on_line line (tests.word_is word)) (kind (seen token.entry)) }
+fn is_word_on_line(token: &Token<'_>, line: bool, word: Keyword) -> bool
+    ensures { result ≡ on [] (tests.on_line line (tests.word_is word)) (kind (seen token.now)) }
 {
     is_word(token, word) && stands_on_line(token, line)
 }
 
 impl<'t> Names<'t> {
-    fn is_base(&self, token: Token<'t>, anyhow: bool) -> bool
-        ensures { result ≡ on (names_of self.now) (tests.is_base anyhow) (kind (seen token.entry)) }
+    fn is_base(&self, token: &Token<'t>, anyhow: bool) -> bool
+        ensures { result ≡ on (names_of self.now) (tests.is_base anyhow) (kind (seen token.now)) }
     {
         match token.terminal {
             Terminal::Of(TokenKind::Keyword(Keyword::Void | Keyword::Int | Keyword::Char)) => true,
@@ -400,8 +400,8 @@ impl<'t> Names<'t> {
         }
     }
 
-    fn is_other_base(&self, token: Token<'t>) -> bool
-        ensures { result ≡ on (names_of self.now) tests.is_other_base (kind (seen token.entry)) }
+    fn is_other_base(&self, token: &Token<'t>) -> bool
+        ensures { result ≡ on (names_of self.now) tests.is_other_base (kind (seen token.now)) }
     {
         match token.terminal {
             Terminal::Of(TokenKind::Keyword(Keyword::Int | Keyword::Char)) => true,
@@ -411,15 +411,15 @@ impl<'t> Names<'t> {
     }
 
     #[tactic(auto, using(crate::proofs::SetLaws::set_laws))]
-    fn is_base_on_line(&self, token: Token<'t>, line: bool) -> bool
-        ensures { result ≡ on (names_of self.now) (tests.on_line line (tests.is_base true)) (kind (seen token.entry)) }
+    fn is_base_on_line(&self, token: &Token<'t>, line: bool) -> bool
+        ensures { result ≡ on (names_of self.now) (tests.on_line line (tests.is_base true)) (kind (seen token.now)) }
     {
         self.is_base(token, true) && stands_on_line(token, line)
     }
 
     #[tactic(auto, using(crate::proofs::SetLaws::set_laws))]
-    fn is_info_or_type(&self, token: Token<'t>) -> bool
-        ensures { result ≡ tests.is_info_or_type (names_of self.now) (kind (seen token.entry)) }
+    fn is_info_or_type(&self, token: &Token<'t>) -> bool
+        ensures { result ≡ tests.is_info_or_type (names_of self.now) (kind (seen token.now)) }
     {
         match token.terminal {
             Terminal::Of(TokenKind::Identifier) => {
@@ -429,8 +429,8 @@ impl<'t> Names<'t> {
         }
     }
 
-    fn is_value_name(&self, token: Token<'t>, constant: bool) -> bool
-        ensures { result ≡ on (names_of self.now) (tests.name_with (tests.is_value_role constant)) (kind (seen token.entry)) }
+    fn is_value_name(&self, token: &Token<'t>, constant: bool) -> bool
+        ensures { result ≡ on (names_of self.now) (tests.name_with (tests.is_value_role constant)) (kind (seen token.now)) }
     {
         match token.terminal {
             Terminal::Of(TokenKind::Identifier) => is_value_role(constant, self.role(token.text)),
@@ -438,8 +438,8 @@ impl<'t> Names<'t> {
         }
     }
 
-    fn is_row_name(&self, token: Token<'t>) -> bool
-        ensures { result ≡ on (names_of self.now) (tests.name_with spec.is_row) (kind (seen token.entry)) }
+    fn is_row_name(&self, token: &Token<'t>) -> bool
+        ensures { result ≡ on (names_of self.now) (tests.name_with spec.is_row) (kind (seen token.now)) }
     {
         match token.terminal {
             Terminal::Of(TokenKind::Identifier) => is_row(self.role(token.text)),
@@ -447,8 +447,8 @@ impl<'t> Names<'t> {
         }
     }
 
-    fn is_int_base(&self, token: Token<'t>) -> bool
-        ensures { result ≡ on (names_of self.now) tests.is_int_base (kind (seen token.entry)) }
+    fn is_int_base(&self, token: &Token<'t>) -> bool
+        ensures { result ≡ on (names_of self.now) tests.is_int_base (kind (seen token.now)) }
     {
         match token.terminal {
             Terminal::Of(TokenKind::Keyword(Keyword::Int)) => true,
@@ -457,8 +457,8 @@ impl<'t> Names<'t> {
         }
     }
 
-    fn is_char_base(&self, token: Token<'t>) -> bool
-        ensures { result ≡ on (names_of self.now) tests.is_char_base (kind (seen token.entry)) }
+    fn is_char_base(&self, token: &Token<'t>) -> bool
+        ensures { result ≡ on (names_of self.now) tests.is_char_base (kind (seen token.now)) }
     {
         match token.terminal {
             Terminal::Of(TokenKind::Keyword(Keyword::Char)) => true,
@@ -468,58 +468,58 @@ impl<'t> Names<'t> {
     }
 
     #[tactic(auto, using(crate::proofs::SetLaws::set_laws))]
-    fn begins_type(&self, token: Token<'t>, anyhow: bool) -> bool
-        ensures { result ≡ on (names_of self.now) (tests.begins_type anyhow) (kind (seen token.entry)) }
+    fn begins_type(&self, token: &Token<'t>, anyhow: bool) -> bool
+        ensures { result ≡ on (names_of self.now) (tests.begins_type anyhow) (kind (seen token.now)) }
     {
         is_word(token, Keyword::Const) || self.is_base(token, anyhow)
     }
 
     #[tactic(auto, using(crate::proofs::SetLaws::set_laws))]
-    fn begins_primary(&self, token: Token<'t>, constant: bool) -> bool
-        ensures { result ≡ on (names_of self.now) (tests.begins_primary constant) (kind (seen token.entry)) }
+    fn begins_primary(&self, token: &Token<'t>, constant: bool) -> bool
+        ensures { result ≡ on (names_of self.now) (tests.begins_primary constant) (kind (seen token.now)) }
     {
         self.is_value_name(token, constant) || begins_unnamed(token)
     }
 
     #[tactic(auto, using(crate::proofs::SetLaws::set_laws))]
-    fn begins_suffixed(&self, token: Token<'t>, constant: bool) -> bool
-        ensures { result ≡ on (names_of self.now) (spec.begins_suffixed constant) (kind (seen token.entry)) }
+    fn begins_suffixed(&self, token: &Token<'t>, constant: bool) -> bool
+        ensures { result ≡ on (names_of self.now) (spec.begins_suffixed constant) (kind (seen token.now)) }
     {
         is_sign(token, Sign::OpenParen) || self.begins_primary(token, constant)
     }
 
     #[tactic(auto, using(crate::proofs::SetLaws::value_laws))]
-    fn begins_value(&self, token: Token<'t>, constant: bool) -> bool
-        ensures { result ≡ on (names_of self.now) (tests.begins_prefixed constant) (kind (seen token.entry)) }
+    fn begins_value(&self, token: &Token<'t>, constant: bool) -> bool
+        ensures { result ≡ on (names_of self.now) (tests.begins_prefixed constant) (kind (seen token.now)) }
     {
         is_prefix(token, constant) || self.begins_suffixed(token, constant)
     }
 
     #[tactic(auto, using(crate::proofs::SetLaws::set_laws))]
-    fn begins_typed(&self, token: Token<'t>) -> bool
-        ensures { result ≡ on (names_of self.now) spec.begins_typed (kind (seen token.entry)) }
+    fn begins_typed(&self, token: &Token<'t>) -> bool
+        ensures { result ≡ on (names_of self.now) spec.begins_typed (kind (seen token.now)) }
     {
         is_word(token, Keyword::Static) || self.begins_type(token, true)
     }
 
     #[tactic(auto, using(crate::proofs::SetLaws::set_laws))]
-    fn begins_declared(&self, token: Token<'t>) -> bool
-        ensures { result ≡ on (names_of self.now) spec.begins_declared (kind (seen token.entry)) }
+    fn begins_declared(&self, token: &Token<'t>) -> bool
+        ensures { result ≡ on (names_of self.now) spec.begins_declared (kind (seen token.now)) }
     {
         is_word(token, Keyword::Typedef)
             || (is_word(token, Keyword::Struct) || self.begins_typed(token))
     }
 
     #[tactic(auto, using(crate::proofs::SetLaws::set_laws))]
-    fn begins_declared_on_line(&self, token: Token<'t>, line: bool) -> bool
-        ensures { result ≡ on (names_of self.now) (tests.on_line line spec.begins_declared) (kind (seen token.entry)) }
+    fn begins_declared_on_line(&self, token: &Token<'t>, line: bool) -> bool
+        ensures { result ≡ on (names_of self.now) (tests.on_line line spec.begins_declared) (kind (seen token.now)) }
     {
         self.begins_declared(token) && stands_on_line(token, line)
     }
 
     #[tactic(auto, using(crate::proofs::SetLaws::item_laws))]
-    fn begins_item(&self, token: Token<'t>, line: bool) -> bool
-        ensures { result ≡ on (names_of self.now) (tests.begins_item line) (kind (seen token.entry)) }
+    fn begins_item(&self, token: &Token<'t>, line: bool) -> bool
+        ensures { result ≡ on (names_of self.now) (tests.begins_item line) (kind (seen token.now)) }
     {
         is_hash(token) || self.begins_declared_on_line(token, line)
     }
@@ -527,6 +527,13 @@ impl<'t> Names<'t> {
     /// Whether a token is in a set, among these names.
     pub fn contain(&self, set: Set<'t>, token: Token<'t>) -> bool
         ensures { result ≡ spec.is_in set.entry (names_of self.now) (kind (seen token.entry)) }
+    {
+        self.have(set, &token)
+    }
+
+    /// The same of a token that stays where it is.
+    pub fn have(&self, set: Set<'t>, token: &Token<'t>) -> bool
+        ensures { result ≡ spec.is_in set.entry (names_of self.now) (kind (seen token.now)) }
     {
         match set {
             Set::Sign(sign) => is_sign(token, sign),
