@@ -2,7 +2,7 @@
 use Rattle.std.proofs.Common.{◌≡◌, ℕ, zero, suc, ◌-◌, List, [], ◌∷◌, drop, Option, Some, None, Ok, refl, sym, ap, ◌∙◌}
 use Rattle.c_lexer.specs.declared.cursor.Lexer.{Lexer}
 use Rattle.c_lexer.specs.Tokens.{Lexeme, left, next_of, behind_next}
-use Rattle.c_tree.specs.Words.{Token, Other, IncludeWord, Inside, Named, Word, words_behind, words_by, file_behind, plain, header, then_behind}
+use Rattle.c_tree.specs.Words.{Token, Other, Hash, IncludeWord, Inside, Named, Word, words_behind, words_by, file_behind, plain, header, then_behind}
 use Rattle.c_nodes.specs.Seen.{seen}
 use Rattle.c_cursor.specs.declared.front.Before.{Before}
 use Rattle.c_cursor.specs.declared.front.Before.TheVariants as before
@@ -47,6 +47,22 @@ joined_plain b front t e f = go (file_behind (behind_of b) t (tokens_of (behind_
         ∙ ap (λ (ts : List Lexeme). words_behind (behind_of b) ts) (sym (tokens_next (left front) t e))
     go (Some n) is found = absurd found
 
+-- nor is one looked for but behind `include`
+pub joined_early : (b : Before) (front : Lexer) (t : Lexeme) → next_of (left front) ≡ Ok (Some t)
+    → ((ts : List Lexeme) → file_behind (behind_of b) t ts ≡ None)
+    → plain t ∷ words_behind (then_behind (behind_of b) t) (tokens_of (behind_next (left front))) ≡ words_behind (behind_of b) (tokens_of (left front))
+joined_early b front t e none =
+    plain_step b t (tokens_of (behind_next (left front))) (none (tokens_of (behind_next (left front))))
+    ∙ ap (λ (ts : List Lexeme). words_behind (behind_of b) ts) (sym (tokens_next (left front) t e))
+
+pub joined_other : (front : Lexer) (t : Lexeme) → next_of (left front) ≡ Ok (Some t)
+    → plain t ∷ words_behind (then_behind Other t) (tokens_of (behind_next (left front))) ≡ words_behind Other (tokens_of (left front))
+joined_other front t e = joined_early before.Other front t e (λ ts. refl)
+
+pub joined_hash : (front : Lexer) (t : Lexeme) → next_of (left front) ≡ Ok (Some t)
+    → plain t ∷ words_behind (then_behind Hash t) (tokens_of (behind_next (left front))) ≡ words_behind Hash (tokens_of (left front))
+joined_hash front t e = joined_early before.Hash front t e (λ ts. refl)
+
 -- where one is found, it is the token
 pub joined_file : (b : Before) (front : Lexer) (t : Lexeme) (i : Included) → next_of (left front) ≡ Ok (Some t)
     → Finds (file_behind (behind_of b) t (tokens_of (behind_next (left front)))) front t (tokens_of (behind_next (left front))) (Some i)
@@ -80,4 +96,4 @@ pub joined_start : (o : Option Named) (front : Lexer) (t : Lexeme) (ts : List Le
 joined_start None front t ts i f = absurd f
 joined_start (Some n) front t ts i f = ap (λ (x : Token). x.start) f.token
 
-pub ruleset joined_laws = (joined_plain, joined_file, joined_bad, joined_text, joined_start)
+pub ruleset joined_laws = (joined_plain, joined_other, joined_hash, joined_file, joined_bad, joined_text, joined_start)

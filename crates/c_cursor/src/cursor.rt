@@ -60,7 +60,7 @@ impl<'t> Cursor<'t> {
     }
 
     /// Whether there is a next token, and it is in a set among names.
-    #[inline]
+    #[inline(always)]
     pub fn shows(&self, names: &Names<'t>, set: Set<'t>) -> bool
         ensures { result ≡ is_first_in (is_in set.entry (names_of names.now)) (rest self.now) }
     {

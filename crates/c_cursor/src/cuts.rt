@@ -97,6 +97,30 @@ impl<'t> Front<'t> {
         ensures text { text_of self.new ≡ (left lexer.entry).bytes }
         ensures start { result.start ≡ token.entry.start }
     {
+        match self.before {
+            Before::IncludeWord => self.behind_word(lexer, token),
+            Before::Hash => {
+                self.before = behind(Before::Hash, token);
+                plain(token)
+            }
+            Before::Other => {
+                self.before = behind(Before::Other, token);
+                plain(token)
+            }
+        }
+    }
+
+    // The same where `include` may stand in front, which is seldom.
+    #[inline(never)]
+    #[tactic(auto, using(crate::proofs::WordLaws::joined_laws, crate::proofs::Left::bad_next))]
+    fn behind_word(&mut self, lexer: Lexer<'t>, token: Lexeme<'t>) -> Token<'t>
+        requires next { next_of (left lexer) ≡ Ok (Some (lexeme token)) }
+        requires behind { left self.old.lexer ≡ behind_next (left lexer) }
+        ensures tokens { seen result ∷ words_of self.new ≡ words.words_behind (behind_of self.old.before) (tokens_of (left lexer.entry)) }
+        ensures stop { stop_of self.new ≡ bad_of (left lexer.entry) }
+        ensures text { text_of self.new ≡ (left lexer.entry).bytes }
+        ensures start { result.start ≡ token.entry.start }
+    {
         match included(self.before, lexer, token) {
             Some(found) => {
                 self.before = Before::Other;

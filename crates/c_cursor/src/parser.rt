@@ -72,6 +72,7 @@ impl<'t> Parser<'t> {
 
     #[tactic(auto, using(crate::proofs::AcceptLaws::next_laws))]
     /// Whether the next token is in a set. There is none once the reader has stopped.
+    #[inline(always)]
     pub fn next_in(&self, set: Set<'t>) -> bool
         ensures token { result ≡ mending.next_in kind (test set.entry self.now) (state self.now) }
         ensures next { result ≡ is_next (names_of self.now.names) set.entry (state self.now) }
@@ -83,6 +84,7 @@ impl<'t> Parser<'t> {
     }
 
     /// Takes the next token if it is in a set. One whose level is too high stops the reader, and is made up.
+    #[inline(always)]
     pub fn accept(&mut self, set: Set<'t>, level: u32) -> Option<Token<'t>>
         ensures token { (seen_option result, state self.new) ≡ accepted set.entry level self.old }
         ensures took { Took set.entry level self.old result self.new }
@@ -96,6 +98,7 @@ impl<'t> Parser<'t> {
     }
 
     // The same, by what the grammar says of one token.
+    #[inline(always)]
     fn accept_next(&mut self, set: Set<'t>, level: u32) -> Option<Token<'t>>
         ensures token { (seen_option result, state self.new) ≡ accepted set.entry level self.old }
         ensures names { self.new.names ≡ self.old.names }
@@ -131,6 +134,7 @@ impl<'t> Parser<'t> {
     }
 
     /// Takes a token of a set. Where the next one is not in it, the reader stops and makes one up.
+    #[inline(always)]
     pub fn expect(&mut self, set: Set<'t>, level: u32) -> Token<'t>
         ensures token { (before : words.Word) → IsAsked set.entry before → (seen result, state self.new) ≡ asked set.entry level before self.old }
         ensures took { Where (is_asked set.entry) (one self.old.end (names_of self.old.names) set.entry level (state self.old) ≡ Some (seen result, state self.new)) }

@@ -89,6 +89,7 @@ pub enum Set<'t> {
 }
 
 #[tactic(auto, using(crate::proofs::SignLaws::signs_equal))]
+#[inline(always)]
 fn is_sign(token: &Token<'_>, sign: Sign) -> bool
     ensures { result ≡ on [] (tests.sign_is sign) (kind (seen token.now)) }
 {
@@ -98,6 +99,7 @@ fn is_sign(token: &Token<'_>, sign: Sign) -> bool
     }
 }
 
+#[inline(always)]
 fn is_word(token: &Token<'_>, word: Keyword) -> bool
     ensures { result ≡ on [] (tests.word_is word) (kind (seen token.now)) }
 {
@@ -107,12 +109,14 @@ fn is_word(token: &Token<'_>, word: Keyword) -> bool
     }
 }
 
+#[inline(always)]
 fn is_name(token: &Token<'_>) -> bool
     ensures { result ≡ on [] (tests.is Name) (kind (seen token.now)) }
 {
     matches!(token.terminal, Terminal::Of(TokenKind::Identifier))
 }
 
+#[inline(always)]
 fn is_number(token: &Token<'_>) -> bool
     ensures { result ≡ on [] (tests.is Number) (kind (seen token.now)) }
 {
@@ -128,6 +132,7 @@ fn is_null(token: &Token<'_>) -> bool
     )
 }
 
+#[inline(always)]
 fn is_literal(token: &Token<'_>) -> bool
     ensures { result ≡ on [] (tests.is_literal) (kind (seen token.now)) }
 {
@@ -204,6 +209,7 @@ pub fn is_info(letters: &[u8]) -> bool
 }
 
 #[tactic(auto, using(crate::proofs::SetLaws::set_laws))]
+#[inline(always)]
 fn is_free_name(token: &Token<'_>, may_be_main: bool) -> bool
     ensures { result ≡ tests.is_free_name may_be_main (kind (seen token.now)) }
 {
@@ -253,6 +259,7 @@ fn means_char(role: Role) -> bool
     matches!(role, Role::Type(Meaning::Char))
 }
 
+#[inline(always)]
 fn is_key_base(token: &Token<'_>) -> bool
     ensures { result ≡ on [] tests.is_key_base (kind (seen token.now)) }
 {
@@ -263,6 +270,7 @@ fn is_key_base(token: &Token<'_>) -> bool
 }
 
 #[tactic(auto, using(crate::proofs::SetLaws::set_laws))]
+#[inline(always)]
 fn begins_key_type(token: &Token<'_>) -> bool
     ensures { result ≡ on [] tests.begins_key_type (kind (seen token.now)) }
 {
@@ -270,6 +278,7 @@ fn begins_key_type(token: &Token<'_>) -> bool
 }
 
 #[tactic(auto, using(crate::proofs::SetLaws::set_laws))]
+#[inline(always)]
 fn goes_on_type(token: &Token<'_>) -> bool
     ensures { result ≡ on [] tests.goes_on_type (kind (seen token.now)) }
 {
@@ -277,12 +286,14 @@ fn goes_on_type(token: &Token<'_>) -> bool
 }
 
 #[tactic(auto, using(crate::proofs::SetLaws::set_laws))]
+#[inline(always)]
 fn goes_on_local(token: &Token<'_>) -> bool
     ensures { result ≡ on [] tests.goes_on_local (kind (seen token.now)) }
 {
     goes_on_type(token) || is_name(token)
 }
 
+#[inline(always)]
 fn begins_unnamed(token: &Token<'_>) -> bool
     ensures { result ≡ on [] tests.begins_unnamed (kind (seen token.now)) }
 {
@@ -298,6 +309,7 @@ fn begins_unnamed(token: &Token<'_>) -> bool
     )
 }
 
+#[inline(always)]
 fn begins_by_word(token: &Token<'_>) -> bool
     ensures { result ≡ on [] spec.begins_by_word (kind (seen token.now)) }
 {
@@ -310,6 +322,7 @@ fn begins_by_word(token: &Token<'_>) -> bool
 }
 
 #[tactic(auto, using(crate::proofs::SetLaws::set_laws))]
+#[inline(always)]
 fn begins_plain(token: &Token<'_>) -> bool
     ensures { result ≡ on [] tests.begins_plain (kind (seen token.now)) }
 {
@@ -320,12 +333,14 @@ fn begins_plain(token: &Token<'_>) -> bool
 }
 
 #[tactic(auto, using(crate::proofs::SetLaws::set_laws))]
+#[inline(always)]
 fn begins_statement(token: &Token<'_>) -> bool
     ensures { result ≡ on [] tests.begins_statement (kind (seen token.now)) }
 {
     is_name(token) || begins_plain(token)
 }
 
+#[inline(always)]
 fn is_prefix(token: &Token<'_>, constant: bool) -> bool
     ensures { result ≡ on [] (spec.is_any_prefix constant) (kind (seen token.now)) }
 {
@@ -335,6 +350,7 @@ fn is_prefix(token: &Token<'_>, constant: bool) -> bool
     }
 }
 
+#[inline(always)]
 fn links(token: &Token<'_>, level: Level) -> bool
     ensures { result ≡ on [] (tests.links level) (kind (seen token.now)) }
 {
@@ -348,6 +364,7 @@ fn links(token: &Token<'_>, level: Level) -> bool
 }
 
 // The levels stand in order, the loosest first.
+#[inline(always)]
 fn links_up_to(token: &Token<'_>, level: Level) -> bool
     ensures { result ≡ on [] (tests.links_up_to level) (kind (seen token.now)) }
 {
@@ -361,6 +378,7 @@ fn links_up_to(token: &Token<'_>, level: Level) -> bool
 }
 
 #[tactic(auto, using(crate::proofs::SetLaws::set_laws))]
+#[inline(always)]
 fn is_dot(token: &Token<'_>, may_be: bool) -> bool
     ensures { result ≡ (may_be && on [] (tests.sign_is sign.Dot) (kind (seen token.now))) }
 {
@@ -368,6 +386,7 @@ fn is_dot(token: &Token<'_>, may_be: bool) -> bool
 }
 
 #[tactic(auto, using(crate::proofs::SetLaws::set_laws))]
+#[inline(always)]
 fn is_field(token: &Token<'_>, dot: bool) -> bool
     ensures { result ≡ on [] (tests.is_field dot) (kind (seen token.now)) }
 {
@@ -525,6 +544,7 @@ impl<'t> Names<'t> {
     }
 
     /// Whether a token is in a set, among these names.
+    #[inline(always)]
     pub fn contain(&self, set: Set<'t>, token: Token<'t>) -> bool
         ensures { result ≡ spec.is_in set.entry (names_of self.now) (kind (seen token.entry)) }
     {
@@ -532,6 +552,7 @@ impl<'t> Names<'t> {
     }
 
     /// The same of a token that stays where it is.
+    #[inline(always)]
     pub fn have(&self, set: Set<'t>, token: &Token<'t>) -> bool
         ensures { result ≡ spec.is_in set.entry (names_of self.now) (kind (seen token.now)) }
     {
