@@ -8,7 +8,7 @@ ghost use Rattle.c_checker.specs.Functions.{again_by};
 ghost use Rattle.c_value_checker.specs.Noted.{noted};
 ghost use Rattle.c_value_checker.specs.Seen.{seen};
 
-use crate::tables::{add_signature, plain, signature_number, takes_of};
+use crate::tables::{add_signature, plain, takes_of};
 use c_tree::{Base, Cause, Kind, KindBase, Name, Parameter, Signature, Sort, Span};
 use c_value_checker::{Environment, Findings};
 use std::alloc::Global;
@@ -196,7 +196,7 @@ fn number_of(
     ensures { IfOk result (λ number. number ≡ number_of (seen environment.now) (spec.takes_of (seen environment.now) signature.now)) }
 {
     let takes = takes_of(alloc, environment, signature)?;
-    Ok(signature_number(environment.signatures.as_slice(), &takes))
+    Ok(environment.signatures.number(&takes))
 }
 
 fn check_found(
@@ -263,7 +263,7 @@ pub fn add_function<'n>(
 {
     let is_defined = is_defined(environment, signature, defines);
     let takes = takes_of(alloc, environment, signature)?;
-    let number = add_signature(environment, takes)?;
+    let number = add_signature(alloc, environment, takes)?;
     environment.declare(
         &signature.name,
         Sort::Function(number, signature.is_static, is_defined),
@@ -279,7 +279,7 @@ pub fn add_function_type<'n>(
     ensures { OnOk result (seen environment.new ≡ spec.new_function_type (seen environment.old) signature.now) }
 {
     let takes = takes_of(alloc, environment, signature)?;
-    let number = add_signature(environment, takes)?;
+    let number = add_signature(alloc, environment, takes)?;
     environment.declare(
         &signature.name,
         Sort::Type(plain(KindBase::Function(number))),

@@ -12,10 +12,10 @@ use crate::library_types::{
     KindRow, NamedKind, SignatureRow, StructRow, function_types, integer_types, signatures,
     struct_types, structs,
 };
-use crate::tables::{copy, number_in, push_field, push_kind, push_takes};
+use crate::tables::{copy, number_in, push_field, push_kind};
 use c_body_checker::{LibraryRow, present_rows};
 use c_tree::{Kind, Sort};
-use c_value_checker::{Environment, Field, Structure, Structures, Takes};
+use c_value_checker::{Environment, Field, Signatures, Structure, Structures, Takes};
 use sqlite_items::Items;
 use std::alloc::Global;
 use vg_base::Memory;
@@ -122,13 +122,13 @@ fn takes_of(alloc: Global, row: &SignatureRow) -> Result<Takes, Memory>
     })
 }
 
-fn signatures_of(alloc: Global, rows: &[SignatureRow]) -> Result<Items<Takes>, Memory>
+fn signatures_of(alloc: Global, rows: &[SignatureRow]) -> Result<Signatures, Memory>
     ensures { IfOk result (λ found. map takes_seen found ≡ map signature_seen rows.now) }
 {
-    let mut found = Items::new(alloc);
+    let mut found = Signatures::new(alloc);
     for row in rows {
         let one = takes_of(alloc, row)?;
-        push_takes(&mut found, one)?;
+        found.push(alloc, one)?;
     }
     Ok(found)
 }

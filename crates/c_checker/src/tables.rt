@@ -1,15 +1,15 @@
 // Structs and signatures, as a unit declares them.
 
 ghost use Rattle.std.specs.Prelude.{◌≡◌, ◌+◌, ◌++◌, [], ◌∷◌, map, IfOk, OnOk, Some};
-ghost use Rattle.c_tree.specs.Env.{kind_of, number_of, same_takes, signature_number, with_signature};
-ghost use Rattle.c_tree.specs.Kinds.{plain, same_known, same_list};
+ghost use Rattle.c_tree.specs.Env.{kind_of, number_of, with_signature};
+ghost use Rattle.c_tree.specs.Kinds.{plain};
 ghost use Rattle.c_tree.specs.Unit.{define_struct, fields_cells, fields_declared, kept_cells, known_cells, new_struct, parameter_kinds, takes_of};
 ghost use Rattle.c_value_checker.specs.Seen.{seen, takes_seen};
 ghost use Rattle.c_value_checker.specs.Structures.{field_seen};
 
 use c_tree::{Kind, KindBase, Local, Name, Parameter, Signature, Sort};
-use c_value_checker::{Environment, Field, Structure, Takes, same};
-use sqlite_items::{Items, at};
+use c_value_checker::{Environment, Field, Structure, Takes};
+use sqlite_items::Items;
 use std::alloc::Global;
 use vg_base::Memory;
 
@@ -133,80 +133,33 @@ pub fn define(
 
 // 2. Signatures
 
-fn same_known(a: Option<Kind>, b: Option<Kind>) -> bool
-    ensures { result ≡ same_known a b }
-{
-    match (a, b) {
-        (Some(a), Some(b)) => same(a, b),
-        (None, None) => true,
-        _ => false,
-    }
-}
-
-fn same_list(a: &[Option<Kind>], b: &[Option<Kind>]) -> bool
-    ensures { result ≡ same_list a.now b.now }
-{
-    let mut index = 0;
-    for kind in a {
-        let Some(other) = at(b, index) else {
-            return false;
-        };
-        if !same_known(*kind, *other) {
-            return false;
-        }
-        index += 1;
-    }
-    index == b.len()
-}
-
-fn same_takes(a: &Takes, b: &Takes) -> bool
-    ensures { result ≡ same_takes (takes_seen a.now) (takes_seen b.now) }
-{
-    same_known(a.result, b.result) && same_list(a.parameters.as_slice(), b.parameters.as_slice())
-}
-
-/// The number of the first signature that equals this one, or the next number.
-#[tactic(auto, using(crate::proofs::TableLemmas::signature_turn, crate::proofs::TableLemmas::signature_found))]
-pub fn signature_number(signatures: &[Takes], takes: &Takes) -> usize
-    ensures { result ≡ signature_number 0 (map takes_seen signatures.now) (takes_seen takes.now) }
-{
-    let mut number = 0;
-    for signature in signatures {
-        if same_takes(signature, takes) {
-            return number;
-        }
-        number += 1;
-    }
-    number
-}
-
-pub fn push_takes(signatures: &mut Items<Takes>, one: Takes) -> Result<(), Memory>
-    ensures { OnOk result (signatures.new ≡ signatures.old ++ one ∷ []) }
-{
-    match signatures.push(one) {
-        Ok(()) => Ok(()),
-        Err(_) => Err(Memory),
-    }
-}
-
 // A signature that has that number is kept, if it is new.
 #[tactic(auto, using(crate::proofs::TableLemmas::signature_added, crate::proofs::TableLemmas::signature_kept))]
-fn keep_signature(environment: &mut Environment, number: usize, takes: Takes) -> Result<(), Memory>
+fn keep_signature(
+    alloc: Global,
+    environment: &mut Environment,
+    number: usize,
+    takes: Takes,
+) -> Result<(), Memory>
     ensures { OnOk result (number ≡ number_of (seen environment.old) (takes_seen takes) → seen environment.new ≡ with_signature (seen environment.old) (takes_seen takes)) }
 {
     if number < environment.signatures.len() {
         return Ok(());
     }
-    push_takes(&mut environment.signatures, takes)
+    environment.signatures.push(alloc, takes)
 }
 
 /// The number of a signature, which may be new.
-pub fn add_signature(environment: &mut Environment, takes: Takes) -> Result<u32, Memory>
+pub fn add_signature(
+    alloc: Global,
+    environment: &mut Environment,
+    takes: Takes,
+) -> Result<u32, Memory>
     ensures number { IfOk result (λ number. number ≡ number_of (seen environment.old) (takes_seen takes)) }
     ensures names { OnOk result (seen environment.new ≡ with_signature (seen environment.old) (takes_seen takes)) }
 {
-    let number = signature_number(environment.signatures.as_slice(), &takes);
-    keep_signature(environment, number, takes)?;
+    let number = environment.signatures.number(&takes);
+    keep_signature(alloc, environment, number, takes)?;
     number_in(number)
 }
 

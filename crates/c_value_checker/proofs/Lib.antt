@@ -5,6 +5,8 @@ pub mod PrefixLemmas
 pub mod ChoiceLemmas
 pub mod ValueLemmas
 pub mod StructLemmas
+pub mod TakesLemmas
+pub mod SignatureLemmas
 pub mod OperandLemmas
 pub mod RowLemmas
 pub mod ShapeLemmas

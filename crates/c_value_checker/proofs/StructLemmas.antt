@@ -10,8 +10,8 @@ use Rattle.c_tree.specs.Env.{structure_at, structure_named, signature_at}
 use Rattle.c_tree.specs.Library as rule
 use Rattle.c_tree.specs.Unit.{with_fields}
 use Rattle.c_value_checker.specs.declared.structures.Structure.{Structure as StructureRow}
-use Rattle.c_value_checker.specs.declared.environment.Takes.{Takes as TakesRow}
-use Rattle.c_value_checker.specs.Seen.{takes_seen}
+use Rattle.c_value_checker.specs.declared.takes.Takes.{Takes as TakesRow}
+use Rattle.c_value_checker.specs.Takes.{takes_seen}
 use Rattle.c_value_checker.specs.Structures.{IsNumbered, structure_seen}
 
 -- 1. By numbers
@@ -46,7 +46,7 @@ abbrev pub or_number : Option ℕ → Option ℕ → Option ℕ
 or_number (Some n) o = Some n
 or_number None o = o
 
-or_if : (b : Bool) (n : ℕ) (o p : Option ℕ) → or_number (if b then Some n else o) p ≡ (if b then Some n else or_number o p)
+pub or_if : (b : Bool) (n : ℕ) (o p : Option ℕ) → or_number (if b then Some n else o) p ≡ (if b then Some n else or_number o p)
 or_if true n o p = refl
 or_if false n o p = refl
 
@@ -60,14 +60,14 @@ named_last n (t ∷ ss) s x =
     ∙ sym (or_if (bytes_eq t.name x) n (structure_named (suc n) ss x) (if bytes_eq s.name x then Some (n + length (t ∷ ss)) else None))
 
 -- what is there counts
-old_case : (b : Bool) (o : Option ℕ) (k : ℕ) → (b ≡ true → is_some o ≡ true) → o ≡ or_number o (if b then Some k else None)
+pub old_case : (b : Bool) (o : Option ℕ) (k : ℕ) → (b ≡ true → is_some o ≡ true) → o ≡ or_number o (if b then Some k else None)
 old_case true None k h = absurd (let q : is_some (let s : Option ℕ = None in s) ≡ true = h refl in let n : ⊥ = cc in n)
 old_case true (Some m) k h = refl
 old_case false None k h = refl
 old_case false (Some m) k h = refl
 
 -- what is not there is new
-new_case : (b : Bool) (o : Option ℕ) (k : ℕ) → (b ≡ true → o ≡ None) → (if b then Some k else o) ≡ or_number o (if b then Some k else None)
+pub new_case : (b : Bool) (o : Option ℕ) (k : ℕ) → (b ≡ true → o ≡ None) → (if b then Some k else o) ≡ or_number o (if b then Some k else None)
 new_case true None k h = refl
 new_case true (Some m) k h = absurd (let q : (let s : Option ℕ = Some m in s) ≡ None = h refl in let n : ⊥ = cc in n)
 new_case false None k h = refl

@@ -1,3 +1,6 @@
+pub mod Takes
+pub mod TakesLaws
+pub mod Signatures
 pub mod Structures
 pub mod Seen
 pub mod Noted

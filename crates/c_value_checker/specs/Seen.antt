@@ -1,9 +1,8 @@
 -- What the checker's tables say.
+pub use Rattle.c_value_checker.specs.Takes.{takes_seen}
 use Rattle.std.specs.Prelude.{ℕ, suc, ◌-◌, List, [], ◌∷◌, map, take, drop, reverse}
 use Rattle.c_tree.specs.declared.kinds.Sort.{Sort}
-use Rattle.c_tree.specs.Library.{Takes}
 use Rattle.c_tree.specs.Env.{Env, Entry}
-use Rattle.c_value_checker.specs.declared.environment.Takes.{Takes as TakesRow}
 use Rattle.c_value_checker.specs.declared.environment.Environment.{Environment}
 
 -- 1. Scopes
@@ -36,13 +35,7 @@ without_innermost ss = ss
 abbrev pub closed : Env → Env
 closed env = record env { scopes = without_innermost env.scopes }
 
--- 2. Signatures
-
--- a signature
-abbrev pub takes_seen : TakesRow → Takes
-takes_seen t = record { result = t.result; parameters = t.parameters }
-
--- 3. The whole
+-- 2. The whole
 
 -- what is declared
 abbrev pub seen : Environment → Env

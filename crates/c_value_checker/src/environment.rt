@@ -3,18 +3,11 @@
 ghost use Rattle.std.specs.Prelude.{◌≡◌, [], ◌∷◌, map};
 ghost use Rattle.c_value_checker.specs.Seen.{seen, takes_seen};
 
+use crate::signatures::Signatures;
 use crate::structures::Structures;
-use c_tree::{Kind, Sort};
+use c_tree::Sort;
 use name_table::NameTable;
-use sqlite_items::Items;
 use std::alloc::Global;
-
-/// What a function takes and gives.
-#[derive(Drop)]
-pub struct Takes {
-    pub result: Option<Kind>,
-    pub parameters: Items<Option<Kind>>,
-}
 
 /// The names in scope, and the structs and the signatures by their numbers. A name is borrowed from what declares it.
 #[derive(Drop)]
@@ -23,12 +16,12 @@ pub struct Environment<'n> {
     /// How many of the names each scope has but the outermost, the innermost scope last.
     pub counts: Vec<usize>,
     pub structs: Structures<'n>,
-    pub signatures: Items<Takes>,
+    pub signatures: Signatures,
 }
 
 impl<'n> Environment<'n> {
     /// One scope without names.
-    pub fn new(alloc: Global, structs: Structures<'n>, signatures: Items<Takes>) -> Environment<'n>
+    pub fn new(alloc: Global, structs: Structures<'n>, signatures: Signatures) -> Environment<'n>
         ensures { seen result ≡ record { scopes = [] ∷ []; structs = structs.entry; signatures = map takes_seen signatures } }
     {
         Environment {

@@ -41,7 +41,7 @@ pub const VOID: Kind = Kind {
     stars: 0,
 };
 
-fn bits(width: Width) -> u32
+pub fn bits(width: Width) -> u32
     ensures { result ≡ spec.bits width }
 {
     match width {

@@ -9,10 +9,11 @@ ghost use Rattle.c_value_checker.specs.Noted.{noted};
 ghost use Rattle.c_value_checker.specs.Seen.{seen, takes_seen};
 ghost use Rattle.c_value_checker.specs.Structures.{field_seen};
 
-use crate::environment::{Environment, Takes};
+use crate::environment::Environment;
 use crate::faults::Findings;
 use crate::kinds::is_pointer;
 use crate::structures::Field;
+use crate::takes::Takes;
 use c_tree::{Base, CType, Kind, KindBase, Name, Sort, Width};
 use sqlite_items::at;
 use vg_base::Memory;

@@ -11,11 +11,13 @@ mod operations;
 mod outcome;
 mod prefixes;
 mod scopes;
+mod signatures;
 mod singles;
 mod structures;
+mod takes;
 mod values;
 
-pub use environment::{Environment, Takes};
+pub use environment::Environment;
 pub use faults::{Findings, is_before, keep};
 pub use judged::{Judged, Literal};
 pub use kinds::{
@@ -26,5 +28,7 @@ pub use kinds::{
 pub use layout::target;
 pub use operations::{chosen, joined, operand_if};
 pub use prefixes::prefixed;
+pub use signatures::Signatures;
 pub use structures::{Field, Structure, Structures};
+pub use takes::Takes;
 pub use values::{check_value, judge, kind_of_value};

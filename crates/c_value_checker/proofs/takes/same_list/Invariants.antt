@@ -1,6 +1,6 @@
 use Rattle.std.proofs.Common.{◌≡◌, ◌≤◌, drop, length}
 use Rattle.c_tree.specs.Kinds.{same_list}
-use Rattle.c_checker.proofs.tables.same_list.Given as goal
+use Rattle.c_value_checker.proofs.takes.same_list.Given as goal
 
 abbrev pub invariant-loop-kind : goal.invariant-loop-kind
 invariant-loop-kind l = record {

@@ -1,7 +1,7 @@
 use Rattle.std.proofs.Common.{◌∙◌, ◌+◌, None, ap, get_or, slice_get, sym}
-use Rattle.c_body_checker.proofs.CallLemmas.{at_place}
-use Rattle.c_checker.proofs.TableLemmas.{got_within, same_done, same_not, same_short, same_turn}
-use Rattle.c_checker.proofs.tables.same_list.Goals as goal
+use Rattle.c_value_checker.proofs.TakesLemmas.{at_place}
+use Rattle.c_value_checker.proofs.TakesLemmas.{got_within, same_done, same_not, same_short, same_turn}
+use Rattle.c_value_checker.proofs.takes.same_list.Goals as goal
 
 pub loop-kind-preserved : goal.loop-kind-preserved
 loop-kind-preserved c = record {
