@@ -100,6 +100,7 @@ pub all_seen : (ws : List Work) → all_own (map item_seen ws) ≡ true
 all_seen [] = refl
 all_seen (work.Run f ∷ ws) = all_seen ws
 all_seen (work.Enter n vs ∷ ws) = all_seen ws
+all_seen (work.Ask f cells ∷ ws) = all_seen ws
 all_seen (work.Keep p t ∷ ws) = all_seen ws
 all_seen (work.Finish ∷ ws) = all_seen ws
 

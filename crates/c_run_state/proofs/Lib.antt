@@ -5,4 +5,5 @@ pub mod Stores
 pub mod Living
 pub mod Popping
 pub mod Answering
+pub mod Asking
 pub mod Numbers

@@ -5,7 +5,7 @@ use Rattle.std.specs.Option.{option_map}
 use Rattle.vg_base.specs.Headline.{Happens}
 use Rattle.c_tree.specs.Env.{Env, cells_of}
 use Rattle.c_meaning.specs.State
-use Rattle.c_meaning.specs.State.{Block, Thing, Item, Run as Runs, Enter, Keep, Finish}
+use Rattle.c_meaning.specs.State.{Block, Thing, Item, Run as Runs, Enter, Ask, Keep, Finish}
 use Rattle.c_meaning.specs.Blocks.{block_of}
 use Rattle.c_meaning.specs.TypeRows.{push}
 use Rattle.cell_heap.specs.States.{heap_of}
@@ -27,6 +27,7 @@ frame_seen f = record { routine = f.routine; at = f.at; block = f.block }
 abbrev pub item_seen : Work → Item
 item_seen (work.Run f) = Runs (frame_seen f)
 item_seen (work.Enter n vs) = Enter n (map value_seen vs.items)
+item_seen (work.Ask f cells) = Ask f cells.items
 item_seen (work.Keep p t) = Keep (place_seen p) t.kind
 item_seen work.Finish = Finish
 

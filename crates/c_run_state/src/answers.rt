@@ -1,19 +1,21 @@
 // What a function of the library answers is done to the run.
 
-ghost use Rattle.std.specs.Prelude.{◌≡◌, OnOk};
+ghost use Rattle.std.specs.Prelude.{◌≡◌, [], ◌∷◌, OnOk};
+ghost use Rattle.c_meaning.specs.TypeRows.{push};
 ghost use Rattle.glib_model.specs.declared.ends.LibWhat.TheVariants as what;
-ghost use Rattle.glib_model.specs.Ends.{finished, noted, noted_all};
+ghost use Rattle.glib_model.specs.Ends.{asked, finished, noted, noted_all};
 ghost use Rattle.c_run_state.specs.Answers.{Applied, SliceMade};
 ghost use Rattle.c_run_state.specs.Shows.{BooksBecome};
 
-use crate::state::Run;
+use crate::lists::append;
+use crate::state::{Run, Work};
 use c_code::{Sliced, Value};
 use c_meaning::Cell;
-use glib_model::{LibEnd, LibWhat, Note, Notes};
+use glib_model::{LibCall, LibCalls, LibEnd, LibWhat, Note, Notes};
 use vg_base::{CEnd, Event, Memory, ThingKind};
 
 impl Run {
-    // What was done to a block on the way is noted.
+    // What was done on the way is noted.
     fn note(&mut self, note: Note) -> Result<(), Memory>
         ensures heap { self.new.heap ≡ self.old.heap }
         ensures noted { OnOk result (BooksBecome (λ s. noted s self.old.heap note) self.old self.new) }
@@ -26,6 +28,7 @@ impl Run {
                 Ok(())
             }
             Note::Freed(block) => self.note_freed(block),
+            Note::Dispatch(id) => self.say(Event::Dispatch(id)),
         }
     }
 
@@ -41,6 +44,27 @@ impl Run {
         self.give(Value::Scalar(cell));
     }
 
+    // A call is the next item of the work.
+    fn ask(&mut self, call: LibCall) -> Result<(), Memory>
+        ensures heap { self.new.heap ≡ self.old.heap }
+        ensures books { OnOk result (BooksBecome (λ s. push (asked (call ∷ [])) s) self.old self.new) }
+    {
+        let LibCall { func, args } = call;
+        append(&mut self.work, Work::Ask(func, args.list))
+    }
+
+    // Calls are the next items of the work, the first one in front: the last one is put there first.
+    fn ask_all(&mut self, calls: LibCalls) -> Result<(), Memory>
+        ensures heap { self.new.heap ≡ self.old.heap }
+        ensures books { OnOk result (BooksBecome (λ s. push (asked calls) s) self.old self.new) }
+    {
+        let mut left = calls.list;
+        while let Some(call) = left.pop() {
+            self.ask(call)?;
+        }
+        Ok(())
+    }
+
     // What comes of a call is done.
     fn close(&mut self, end: LibWhat) -> Result<(), Memory>
         ensures heap { self.new.heap ≡ self.old.heap }
@@ -48,12 +72,14 @@ impl Run {
     {
         match end {
             LibWhat::Value(cell) => self.give_cell(cell),
+            LibWhat::Calls(list) => self.ask_all(list.calls)?,
             LibWhat::Print { stream, bytes } => {
                 self.say(Event::Print { stream, bytes })?;
                 self.give_nothing();
             }
             LibWhat::Aborted(kind) => self.stop(CEnd::Aborted(kind)),
             LibWhat::Undefined(kind) => self.undefined(kind),
+            LibWhat::Waiting => self.stop(CEnd::Waiting),
         }
         Ok(())
     }

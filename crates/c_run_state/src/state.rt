@@ -7,6 +7,7 @@ ghost use Rattle.c_meaning.specs.Runs.{nothing};
 ghost use Rattle.c_run_state.specs.Shows.{Becomes, Shows};
 
 use c_code::{Place, Taken, Value};
+use c_meaning::Cell;
 use cell_heap::CellHeap;
 use glib_model::{Kinds, Quarks};
 use std::alloc::Global;
@@ -27,6 +28,8 @@ pub enum Work {
     Run(Frame),
     /// The entry into a function.
     Enter(u64, Vec<Value>),
+    /// A call that a function of the library asks for.
+    Ask(Cell, Vec<Cell>),
     /// What was given goes to a place.
     Keep(Place, Taken),
     /// `main` has returned.

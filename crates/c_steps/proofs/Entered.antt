@@ -1,20 +1,21 @@
 -- Functions are called and entered, and what was given is kept.
-use Rattle.std.proofs.Common.{◌≡◌, ◌∙◌, refl, sym, ap, ℕ, ◌==◌, ◌≤◌, Bool, List, [], ◌∷◌, ◌++◌, drop, length, map, Option, Some, None, Ok, Err}
+use Rattle.std.proofs.Common.{◌≡◌, ◌∙◌, refl, sym, ap, ℕ, ◌+◌, ◌==◌, ◌≤◌, ◌<◌, take, get_or, Bool, List, [], ◌∷◌, ◌++◌, drop, length, map, Option, Some, None, Result, Ok, Err, false, is_ok, is_err, cond}
 use Rattle.std.proofs.Common.{Bor}
 use Rattle.std.specs.Option.{option_copied, option_map}
 use Rattle.std.specs.Prelude.{if◌then◌else◌}
-use Rattle.std.proofs.lemmas.List.{append-nil, drop_all, length-map}
+use Rattle.std.proofs.lemmas.List.{append-nil, drop_all, length-map, map-append, take_more}
 use Rattle.vg_base.specs.declared.event.UndefKind.TheVariants as undef
 use Rattle.c_tree.specs.Kinds.{is_struct}
 use Rattle.c_tree.specs.Env.{Env, cells_of}
 use Rattle.c_meaning.specs.State
-use Rattle.c_meaning.specs.State.{Enter, Place}
+use Rattle.c_meaning.specs.State.{Enter, Place, Scalar}
 use Rattle.c_meaning.specs.declared.cell.Cell.{Cell}
 use Rattle.c_meaning.specs.Blocks.{Answer, on, bind, undefined}
 use Rattle.c_meaning.specs.Numbers.{converted}
 use Rattle.c_meaning.specs.TypeRows.{push}
-use Rattle.c_meaning.specs.Steps.{is_same_sort, keep, store}
+use Rattle.c_meaning.specs.Steps.{is_same_sort, keep, scalars, store}
 use Rattle.c_code.specs.declared.value.Value.{Value}
+use Rattle.c_code.specs.declared.value.Value.TheVariants as value
 use Rattle.c_code.specs.declared.program.Body.{Body}
 use Rattle.c_code.specs.declared.program.Routine.{Routine}
 use Rattle.c_code.specs.declared.program.Taken.{Taken}
@@ -59,3 +60,20 @@ pub all_fit : (ts : List Taken) (values : List Value) (cells : List Cell) (i : �
 all_fit ts values cells i done so_far =
     so_far ∙ ap (λ vs. bind (argument_cells (drop i ts) (map value_seen vs)) (λ cs. Ok (cells ++ cs))) (drop_all i values done)
     ∙ ap (λ (a : Answer (List Cell)). bind a (λ cs. Ok (cells ++ cs))) (none_fit (drop i ts)) ∙ ap Ok (append-nil cells)
+
+-- what was pushed stands last
+pub stands_last : {A E T : Type 0} (r : Result A E) (now long short : List T) → is_err r ≡ false → now ≡ cond (is_ok r) long short → now ≡ long
+stands_last (Ok x) now long short ok is = is
+stands_last (Err e) now long short ok is = cc
+
+-- cells as values, one by one
+scalars-append : (xs ys : List Cell) → scalars (xs ++ ys) ≡ scalars xs ++ scalars ys
+scalars-append [] ys = refl
+scalars-append (x ∷ xs) ys = ap (λ vs. Scalar x ∷ vs) (scalars-append xs ys)
+
+pub one_more_scalar : (cells : List Cell) (i : ℕ) (d : Cell) (values more : List Value) → i < length cells → more ≡ values ++ value.Scalar (get_or cells i d) ∷ []
+    → map value_seen values ≡ scalars (take i cells) → map value_seen more ≡ scalars (take (i + 1) cells)
+one_more_scalar cells i d values more within is so_far =
+    let x : Cell = get_or cells i d in
+    ap (map value_seen) is ∙ map-append value_seen values (value.Scalar x ∷ []) ∙ ap (λ vs. vs ++ Scalar x ∷ []) so_far
+    ∙ sym (scalars-append (take i cells) (x ∷ [])) ∙ ap scalars (sym (take_more cells i d within))

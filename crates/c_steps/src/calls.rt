@@ -1,7 +1,8 @@
 // Calls, and entries into functions.
 
-ghost use Rattle.std.specs.Prelude.{◌≡◌, ◌==◌, OnOk, length, map, slice_get};
+ghost use Rattle.std.specs.Prelude.{◌≡◌, ◌==◌, IfOk, OnOk, length, map, slice_get};
 ghost use Rattle.std.specs.Option.{option_copied};
+ghost use Rattle.c_meaning.specs.Steps.{scalars};
 ghost use Rattle.c_code.specs.Machine.{body_of, call_by, call_cell, enter_routine};
 ghost use Rattle.c_code.specs.declared.program.Callee.TheVariants as target;
 ghost use Rattle.cell_heap.specs.States.{heap_of};
@@ -64,6 +65,33 @@ fn call_cell(
         Cell::Int(_) => undefined(run, UndefKind::Kind),
         Cell::Uns(_) => undefined(run, UndefKind::Kind),
     }
+}
+
+// Cells as values.
+fn scalars(alloc: Global, cells: &[Cell]) -> Result<Vec<Value>, Memory>
+    ensures { IfOk result (λ values. map value_seen values.items ≡ scalars cells.now) }
+{
+    let mut values = Vec::new(alloc);
+    for cell in cells {
+        if values.push(Value::Scalar(*cell)).is_err() {
+            return Err(Memory);
+        }
+    }
+    Ok(values)
+}
+
+/// A call that a function of the library asked for.
+pub fn ask(
+    alloc: Global,
+    run: &mut Run,
+    routines: &[Routine],
+    cell: Cell,
+    cells: &[Cell],
+) -> Result<(), Memory>
+    ensures { OnOk result (Goes (λ s. call_cell routines.now s (scalars cells.now) cell) run.old run.new) }
+{
+    let values = scalars(alloc, cells)?;
+    call_cell(run, routines, values, cell)
 }
 
 // A value is called.

@@ -7,7 +7,7 @@ ghost use Rattle.c_run_state.specs.Shows.{frame_seen, item_seen};
 ghost use Rattle.c_run_state.specs.declared.state.Work.TheVariants as work;
 ghost use Rattle.c_steps.specs.Performs.{Does, DoesFirst, DoesNext, DoesSilently, MakesStep, Settles, TellsEnough, TellsSilence};
 
-use crate::calls::body_of;
+use crate::calls::{ask, body_of};
 use crate::entries::enter_frame;
 use crate::keeping::keep;
 use crate::perform::perform;
@@ -52,7 +52,7 @@ fn is_silent(routines: &[Routine], work: &Work) -> bool
 {
     match work {
         Work::Run(frame) => is_passed(statement_at(routines, *frame)),
-        Work::Enter(_, _) => false,
+        Work::Enter(_, _) | Work::Ask(_, _) => false,
         Work::Keep(_, _) | Work::Finish => true,
     }
 }
@@ -90,6 +90,7 @@ fn do_silent(run: &mut Run, routines: &[Routine], work: &Work) -> Result<(), Mem
         Work::Keep(place, taken) => keep(run, *place, *taken),
         Work::Finish => run.finish(),
         Work::Enter(_, _) => Ok(()),
+        Work::Ask(_, _) => Ok(()),
     }
 }
 
@@ -138,6 +139,7 @@ fn do_item(alloc: Global, run: &mut Run, routines: &[Routine], work: Work) -> Re
         Work::Enter(number, values) => {
             enter_frame(alloc, run, routines, number, values.as_slice())
         }
+        Work::Ask(cell, cells) => ask(alloc, run, routines, cell, cells.as_slice()),
         Work::Keep(place, taken) => keep(run, place, taken),
         Work::Finish => run.finish(),
     }

@@ -1,5 +1,6 @@
 pub mod ArgumentLemmas
 pub mod BlockLemmas
+pub mod Calling
 pub mod ErrorLemmas
 pub mod ErrorRows
 pub mod Filling

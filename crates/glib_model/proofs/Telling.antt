@@ -57,9 +57,11 @@ same_blocks s (what.Value (Ptr b a)) = refl
 same_blocks s (what.Value (Func f)) = refl
 same_blocks s (what.Value Null) = refl
 same_blocks s (what.Value Unset) = refl
+same_blocks s (what.Calls l) = refl
 same_blocks s (what.Print to bytes) = refl
 same_blocks s (what.Aborted k) = refl
 same_blocks s (what.Undefined u) = refl
+same_blocks s what.Waiting = refl
 
 pub quiet_tells : (s : State.State) (heap : List (Option (List Cell))) (w : LibWhat) → heap_of s ≡ heap → Tells s (finished s w) heap (record { what = w; notes = [] })
 quiet_tells s heap w sees = record { run = ap (λ x. finished x w) (sym (stored_same s heap sees)); blocks = same_blocks s w ∙ sees }

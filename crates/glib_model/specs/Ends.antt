@@ -1,5 +1,5 @@
 -- What a function of the library answers, and what that tells of the run.
-use Rattle.std.specs.Prelude.{◌≡◌, ℕ, ◌==◌, Bool, true, false, List, [], ◌∷◌, Option, Some, None, if◌then◌else◌}
+use Rattle.std.specs.Prelude.{◌≡◌, ℕ, ◌==◌, Bool, true, false, List, [], ◌∷◌, map, Option, Some, None, if◌then◌else◌}
 use Rattle.vg_base.specs.declared.event.Event.TheVariants as event
 use Rattle.vg_base.specs.declared.event.CEnd.TheVariants as «end»
 use Rattle.vg_base.specs.declared.event.ThingKind.TheVariants as thing
@@ -10,15 +10,17 @@ use Rattle.vg_base.specs.declared.event.Fault.TheVariants as fault
 use Rattle.c_meaning.specs.declared.cell.Cell.{Cell}
 use Rattle.c_meaning.specs.declared.cell.Cell.TheVariants.{Unset}
 use Rattle.c_meaning.specs.State
-use Rattle.c_meaning.specs.State.{Block}
+use Rattle.c_meaning.specs.State.{Block, Item, Ask}
 use Rattle.c_meaning.specs.Blocks.{stop, undefined, happens, make_thing, free, next_block, next_pointer}
 use Rattle.c_meaning.specs.Texts.{give, give_nothing}
+use Rattle.c_meaning.specs.TypeRows.{push}
 use Rattle.c_meaning.specs.BlockRows.{Does, TypeArgument, g_slice_new0}
 use Rattle.cell_heap.specs.Heap.{cells_of}
 use Rattle.cell_heap.specs.States.{heap_of}
 use Rattle.glib_model.specs.declared.kinds.Mark.{Mark}
 use Rattle.glib_model.specs.declared.ends.Note.{Note}
-use Rattle.glib_model.specs.declared.ends.Note.TheVariants.{Made, Freed}
+use Rattle.glib_model.specs.declared.ends.Note.TheVariants.{Made, Freed, Dispatch}
+use Rattle.glib_model.specs.declared.ends.LibCall.{LibCall}
 use Rattle.glib_model.specs.declared.ends.LibWhat.{LibWhat}
 use Rattle.glib_model.specs.declared.ends.LibWhat.TheVariants as what
 use Rattle.glib_model.specs.declared.ends.LibEnd.{LibEnd}
@@ -46,10 +48,11 @@ abbrev pub cells_in : Option (List Cell) → List Cell
 cells_in None = []
 cells_in (Some cells) = cells
 
--- a thing was made under the next number, or a block was freed
+-- a thing was made under the next number, or a block was freed, or the main loop dispatches a source
 abbrev pub noted : State.State → List (Option (List Cell)) → Note → State.State
 noted s heap (Made n kind) = if n == next_block s then make_thing s kind None false (cells_in (cells_of heap n)) else s
 noted s heap (Freed n) = free s n
+noted s heap (Dispatch id) = happens s (event.Dispatch id)
 
 abbrev pub noted_all : State.State → List (Option (List Cell)) → List Note → State.State
 noted_all s heap [] = s
@@ -57,13 +60,19 @@ noted_all s heap (n ∷ ns) = noted_all (noted s heap n) heap ns
 
 -- 3. What comes of it
 
--- the value Unset is that of a function that gives nothing
+-- calls that are asked for, as items of the work
+abbrev pub asked : List LibCall → List Item
+asked calls = map (λ (c : LibCall). Ask c.func c.args) calls
+
+-- the value Unset is that of a function that gives nothing; calls are the next items of the work, the first one in front
 abbrev pub finished : State.State → LibWhat → State.State
 finished s (what.Value Unset) = give_nothing s
 finished s (what.Value c) = give s c
+finished s (what.Calls list) = push (asked list.calls) s
 finished s (what.Print to bytes) = give_nothing (happens s (event.Print to bytes))
 finished s (what.Aborted kind) = stop s («end».Aborted kind)
 finished s (what.Undefined kind) = undefined s kind
+finished s what.Waiting = stop s («end».Waiting)
 
 -- WHAT AN ANSWER TELLS of a run: the stores that the heap shows, then what was noted, then what comes of it
 abbrev pub told : State.State → List (Option (List Cell)) → LibEnd → State.State

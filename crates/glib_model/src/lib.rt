@@ -19,7 +19,7 @@ mod tests;
 mod texts;
 
 pub use blocks::{g_free, g_new0, g_renew, g_slice_free, g_slice_new0};
-pub use ends::{LibEnd, LibWhat, Note, Notes};
+pub use ends::{CallList, Cells, LibCall, LibCalls, LibEnd, LibWhat, Note, Notes};
 pub use errors::{g_error_copy, g_error_free, g_error_matches, g_error_new};
 pub use kinds::{Kinds, Mark};
 pub use outside::{g_error, g_quark_from_static_string, vala_rt_read_line};

@@ -2,9 +2,9 @@
 use Rattle.std.proofs.Common.{◌∙◌, sym, subst, ap, map, slice_get}
 use Rattle.std.specs.Option.{option_copied}
 use Rattle.std.proofs.lemmas.Result.{on_ok_weaker}
-use Rattle.c_meaning.specs.Steps.{keep}
+use Rattle.c_meaning.specs.Steps.{keep, scalars}
 use Rattle.c_code.specs.Values.{place_seen, value_seen}
-use Rattle.c_code.specs.Machine.{body_of, enter_frame, perform_if}
+use Rattle.c_code.specs.Machine.{body_of, call_cell, enter_frame, perform_if}
 use Rattle.c_run_state.specs.Shows.{Shows, frame_seen}
 use Rattle.c_steps.specs.Performs.{Does}
 use Rattle.c_steps.proofs.Sizes.{sized_statement}
@@ -31,6 +31,13 @@ returns-in-Enter c =
     subst (λ vs. Shows env c.enter_frame.new.run
     (enter_frame s c.in-Enter.number (map value_seen vs) (body_of (slice_get c.args.routines.now c.in-Enter.number)))) c.as_slice.ensures.value
     (enters env s live shows))) c.enter_frame.ensures
+
+pub returns-in-Ask : goal.returns-in-Ask
+returns-in-Ask c =
+    on_ok_weaker c.ask.result (λ asks. subst (λ w. Does c.args.routines.now w c.args.run.now c.ask.new.run) (sym c.in-Ask.is)
+    (λ env p s same all sized live shows.
+    subst (λ cells. Shows env c.ask.new.run (call_cell c.args.routines.now s (scalars cells) c.in-Ask.cell)) c.as_slice-in-Ask.ensures.value
+    (asks env s live shows))) c.ask.ensures
 
 pub returns-in-Keep : goal.returns-in-Keep
 returns-in-Keep c =

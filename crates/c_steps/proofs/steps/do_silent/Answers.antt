@@ -23,3 +23,6 @@ returns-in-Finish c =
 
 pub returns-in-Enter : goal.returns-in-Enter
 returns-in-Enter c = subst (λ w. DoesSilently c.args.routines.now w c.args.run.now c.args.run.now) (sym c.in-Enter.is) (λ env p s same sized live shows. shows)
+
+pub returns-in-Ask : goal.returns-in-Ask
+returns-in-Ask c = subst (λ w. DoesSilently c.args.routines.now w c.args.run.now c.args.run.now) (sym c.in-Ask.is) (λ env p s same sized live shows. shows)

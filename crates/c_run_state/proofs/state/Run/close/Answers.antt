@@ -19,3 +19,11 @@ returns-in-Aborted-clause-finished c = λ env s books. subst (λ w. Books env c.
 
 pub returns-in-Undefined-clause-finished : goal.returns-in-Undefined-clause-finished
 returns-in-Undefined-clause-finished c = λ env s books. subst (λ w. Books env c.undefined.new.self (finished s w)) (sym c.in-Undefined.is) (c.undefined.ensures.books env s books)
+
+pub returns-in_ok-ask_all-in-Calls-clause-finished : goal.returns-in_ok-ask_all-in-Calls-clause-finished
+returns-in_ok-ask_all-in-Calls-clause-finished c = λ env s books.
+    subst (λ w. Books env c.ask_all.new.self (finished s w)) (sym c.in-Calls.is) (c.in_ok-ask_all-in-Calls.ensures.books env s books)
+
+pub returns-in-Waiting-clause-finished : goal.returns-in-Waiting-clause-finished
+returns-in-Waiting-clause-finished c = λ env s books.
+    subst (λ w. Books env c.stop-in-Waiting.new.self (finished s w)) (sym c.in-Waiting.is) (c.stop-in-Waiting.ensures.books env s books)

@@ -23,3 +23,7 @@ returns-else-block-len-clause-noted c = λ env s books.
 pub returns-in-Freed-clause-noted : goal.returns-in-Freed-clause-noted
 returns-in-Freed-clause-noted c =
     on_ok_weaker c.note_freed.result (λ freed env s books. subst (λ note. Books env c.note_freed.new.self (noted s c.args.self.now.heap note)) (sym c.in-Freed.is) (freed env s books)) c.note_freed.ensures.freed
+
+pub returns-in-Dispatch-clause-noted : goal.returns-in-Dispatch-clause-noted
+returns-in-Dispatch-clause-noted c =
+    on_ok_weaker c.say.result (λ says env s books. subst (λ note. Books env c.say.new.self (noted s c.args.self.now.heap note)) (sym c.in-Dispatch.is) (says env s books)) c.say.ensures.books
